@@ -1,0 +1,61 @@
+//! The calls of the C library, wrapped so that what is lent is watched.
+
+use std::ffi::c_uint;
+use std::ptr;
+
+unsafe extern "C" {
+    fn pt_identity(bytes: *const u8, length: usize) -> c_uint;
+    fn pt_read(
+        list: *const u8,
+        list_length: usize,
+        row: *mut u16,
+        row_length: usize,
+        answer: *mut c_uint,
+    );
+}
+
+/// How a part of length 0 is passed.
+#[derive(Clone, Copy, Debug, PartialEq, Eq)]
+pub enum WhenEmpty {
+    Null,
+    Pointer,
+}
+
+impl WhenEmpty {
+    fn pointer<T>(self, part: &[T]) -> *const T {
+        if part.is_empty() && self == WhenEmpty::Null {
+            ptr::null()
+        } else {
+            part.as_ptr()
+        }
+    }
+
+    fn pointer_mut<T>(self, part: &mut [T]) -> *mut T {
+        if part.is_empty() && self == WhenEmpty::Null {
+            ptr::null_mut()
+        } else {
+            part.as_mut_ptr()
+        }
+    }
+}
+
+pub fn identity(bytes: &[u8], when_empty: WhenEmpty) -> u32 {
+    // SAFETY: the pointer covers the length, or is null where the length is 0.
+    unsafe { pt_identity(when_empty.pointer(bytes), bytes.len()) }
+}
+
+/// The answer begins as the caller gives it; all eight numbers are written.
+pub fn read(list: &[u8], row: &mut [u16], answer: &mut [u32; 8], when_empty: WhenEmpty) {
+    let row_length = row.len();
+    // SAFETY: the pointers cover their lengths, or are null where a length is
+    // 0; the three parts don't overlap, and the answer holds eight numbers.
+    unsafe {
+        pt_read(
+            when_empty.pointer(list),
+            list.len(),
+            when_empty.pointer_mut(row),
+            row_length,
+            answer.as_mut_ptr(),
+        );
+    }
+}

@@ -1,0 +1,164 @@
+//! Fresh random cases.
+
+use super::mutate::{TELLING, mutate_identity, mutate_list};
+use second::cases::build::{
+    EntryPlan, MOST_NUMBERS, creator_sid, fix_size, list_of_plans, random_list, random_sid,
+    set_count, sid,
+};
+use second::random::Random;
+
+pub enum Subject {
+    List { list: Vec<u8>, row_length: usize },
+    Identity(Vec<u8>),
+}
+
+pub fn subject(random: &mut Random) -> Subject {
+    if random.chance(1, 6) {
+        return Subject::Identity(identity(random));
+    }
+    let (list, count) = list(random);
+    let row_length = row_length(random, count);
+    Subject::List { list, row_length }
+}
+
+/// A list with the count it was made for.
+fn list(random: &mut Random) -> (Vec<u8>, usize) {
+    if random.chance(1, 1_500) {
+        return long_list(random);
+    }
+    let count = entry_count(random);
+    let revision = *random.pick(&[2, 4, 4]);
+    let good = random_list(random, revision, count);
+    let list = match random.below(20) {
+        0..5 => good,
+        5..15 => mutated(random, good),
+        15 => cut(random, good),
+        16 => extended(random, good),
+        17 if random.chance(1, 2) => with_cut_entry(random, good, count),
+        17 => recounted(random, good, count),
+        18 => noise_behind_header(random, good),
+        _ => noise(random),
+    };
+    (list, count)
+}
+
+fn entry_count(random: &mut Random) -> usize {
+    match random.below(12) {
+        0 => 0,
+        1..4 => 1,
+        4..10 => 1 + random.below(4),
+        _ => random.below(20),
+    }
+}
+
+fn mutated(random: &mut Random, mut list: Vec<u8>) -> Vec<u8> {
+    for _ in 0..1 + random.below(3) {
+        mutate_list(random, &mut list);
+    }
+    list
+}
+
+fn cut(random: &mut Random, mut list: Vec<u8>) -> Vec<u8> {
+    list.truncate(random.below(list.len() + 1));
+    fixed_mostly(random, list)
+}
+
+fn extended(random: &mut Random, mut list: Vec<u8>) -> Vec<u8> {
+    let tail = 1 + random.below(40);
+    list.extend(random.bytes(tail));
+    fixed_mostly(random, list)
+}
+
+/// One entry more, of which only the first bytes are there.
+fn with_cut_entry(random: &mut Random, mut list: Vec<u8>, count: usize) -> Vec<u8> {
+    let length = random.below(12);
+    let size = random.below(length + 2) as u8;
+    let start = [*random.pick(&TELLING), *random.pick(&TELLING), size, 0];
+    list.extend(start.into_iter().chain([0; 8]).take(length));
+    fix_size(&mut list);
+    set_count(&mut list, count + 1);
+    list
+}
+
+fn fixed_mostly(random: &mut Random, mut list: Vec<u8>) -> Vec<u8> {
+    if random.chance(3, 4) {
+        fix_size(&mut list);
+    }
+    list
+}
+
+fn recounted(random: &mut Random, mut list: Vec<u8>, count: usize) -> Vec<u8> {
+    let wrong = [count + 1, count.wrapping_sub(1), 0, count + 0x100, 0xFFFF];
+    set_count(&mut list, *random.pick(&wrong));
+    list
+}
+
+fn noise_behind_header(random: &mut Random, mut list: Vec<u8>) -> Vec<u8> {
+    let kept = list.len().min(8 + random.below(8));
+    list.truncate(kept);
+    let length = random.below(60);
+    list.extend(random.bytes(length));
+    fix_size(&mut list);
+    list
+}
+
+fn noise(random: &mut Random) -> Vec<u8> {
+    let length = random.below(120);
+    random.bytes(length)
+}
+
+/// Near the greatest length: good, changed, or past 65,535 bytes.
+fn long_list(random: &mut Random) -> (Vec<u8>, usize) {
+    let plan = EntryPlan::random(random, true);
+    let room = 65_540 - 8 - random.below(40);
+    let count = room / plan.size();
+    let mut list = list_of_plans(4, &vec![plan; count]);
+    if random.chance(1, 3) {
+        list.resize(65_528 + random.below(16), 0);
+        fix_size(&mut list);
+    }
+    if random.chance(1, 4) {
+        mutate_list(random, &mut list);
+    }
+    (list, count)
+}
+
+fn row_length(random: &mut Random, count: usize) -> usize {
+    match random.below(16) {
+        0 => 0,
+        1 => count.saturating_sub(1),
+        2 => random.below(count + 1),
+        3..9 => count,
+        _ => count + random.below(6),
+    }
+}
+
+fn identity(random: &mut Random) -> Vec<u8> {
+    let numbers = random.below(MOST_NUMBERS + 1);
+    match random.below(10) {
+        0..2 => random_sid(random, numbers),
+        2 => creator_sid(0),
+        3 => creator_sid(1),
+        4 => of_creator_authority(random),
+        5 => {
+            let near = creator_sid(random.below(3) as u32);
+            mutate_identity(random, near)
+        }
+        6..9 => {
+            let good = random_sid(random, numbers);
+            mutate_identity(random, good)
+        }
+        _ => {
+            let length = random.below(90);
+            random.bytes(length)
+        }
+    }
+}
+
+/// S-1-3 with up to three small numbers.
+fn of_creator_authority(random: &mut Random) -> Vec<u8> {
+    let numbers: Vec<u32> = (0..random.below(4))
+        .map(|_| random.below(3) as u32)
+        .collect();
+    sid([0, 0, 0, 0, 0, 3], &numbers)
+}

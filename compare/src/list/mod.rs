@@ -1,0 +1,86 @@
+//! Reading lists and identities.
+
+mod generate;
+mod mutate;
+
+use crate::capi::{self, WhenEmpty};
+use crate::report::Report;
+use generate::Subject;
+use second::random::Random;
+use second::{hex, identity, reading};
+
+/// Elements before and after the row that nobody may touch.
+const MARGIN: usize = 4;
+
+pub fn compare(cases: usize, seed: u64) -> Report {
+    let mut random = Random::new(seed);
+    let mut report = Report::new("list");
+    for _ in 0..cases {
+        match generate::subject(&mut random) {
+            Subject::List { list, row_length } => {
+                compare_read(&mut random, &mut report, &list, row_length)
+            }
+            Subject::Identity(bytes) => compare_identity(&mut random, &mut report, &bytes),
+        }
+    }
+    report
+}
+
+fn when_empty(random: &mut Random) -> WhenEmpty {
+    *random.pick(&[WhenEmpty::Null, WhenEmpty::Pointer])
+}
+
+fn compare_identity(random: &mut Random, report: &mut Report, bytes: &[u8]) {
+    let lent = bytes.to_vec();
+    let theirs = capi::identity(&lent, when_empty(random));
+    let ours = identity::classify(bytes);
+    let difference = if theirs != ours {
+        Some(format!("{theirs}, second {ours}"))
+    } else if lent != bytes {
+        Some("the bytes were changed".to_string())
+    } else {
+        None
+    };
+    let told = difference.map(|what| format!("identity {}: {what}", hex::encode(bytes)));
+    report.add("identity", ours, told);
+}
+
+fn compare_read(random: &mut Random, report: &mut Report, list: &[u8], row_length: usize) {
+    let before = random_numbers(random, row_length + 2 * MARGIN);
+    let inside = MARGIN..MARGIN + row_length;
+
+    let mut our_row = before.clone();
+    let ours = reading::read(list, &mut our_row[inside.clone()]).eight();
+
+    let lent = list.to_vec();
+    let mut their_row = before;
+    let mut theirs = [0; 8].map(|_: u32| random.word());
+    let empty = when_empty(random);
+    capi::read(&lent, &mut their_row[inside], &mut theirs, empty);
+
+    let difference = if theirs != ours {
+        Some(format!("{theirs:?}, second {ours:?}"))
+    } else if their_row != our_row {
+        Some(row_difference(&their_row, &our_row))
+    } else if lent != list {
+        Some("the list was changed".to_string())
+    } else {
+        None
+    };
+    let told = difference.map(|what| {
+        let text = hex::encode(list);
+        format!("read row {row_length} list {text}: {what}")
+    });
+    report.add("read", ours[0], told);
+}
+
+fn random_numbers(random: &mut Random, length: usize) -> Vec<u16> {
+    (0..length).map(|_| random.word() as u16).collect()
+}
+
+/// Names the first element that differs; those of the margin are outside.
+fn row_difference(theirs: &[u16], ours: &[u16]) -> String {
+    let at = theirs.iter().zip(ours).take_while(|(a, b)| a == b).count();
+    let place = at as isize - MARGIN as isize;
+    format!("row element {place} is {}, second {}", theirs[at], ours[at])
+}

@@ -1,0 +1,134 @@
+//! Changes to good bytes, mostly where a test looks.
+
+use second::cases::build::fix_size;
+use second::random::Random;
+
+pub const TELLING: [u8; 19] = [
+    0, 1, 2, 3, 4, 5, 6, 7, 8, 0x0F, 0x10, 0x11, 0x14, 0x1F, 0x20, 0x40, 0x7F, 0x80, 0xFF,
+];
+
+fn changed_byte(random: &mut Random, old: u8) -> u8 {
+    match random.below(8) {
+        0 => old.wrapping_add(1),
+        1 => old.wrapping_sub(1),
+        2 => old.wrapping_add(4),
+        3 => old.wrapping_sub(4),
+        4 => old ^ (1 << random.below(8)),
+        5 => random.byte(),
+        _ => *random.pick(&TELLING),
+    }
+}
+
+fn change_at(random: &mut Random, bytes: &mut [u8], at: usize) {
+    if let Some(place) = bytes.get_mut(at) {
+        *place = changed_byte(random, *place);
+    }
+}
+
+pub fn mutate_list(random: &mut Random, list: &mut Vec<u8>) {
+    match random.below(16) {
+        0 | 1 => {
+            let at = random.below(8);
+            change_at(random, list, at);
+        }
+        2 => {
+            let at = random.below(list.len());
+            change_at(random, list, at);
+        }
+        3 => change_length_inside(random, list),
+        4 => set_small_size(random, list),
+        _ => {
+            let at = telling_place(random, list);
+            change_at(random, list, at);
+        }
+    }
+}
+
+/// Takes bytes out, or puts some in; the size field follows.
+fn change_length_inside(random: &mut Random, list: &mut Vec<u8>) {
+    if list.len() <= 8 {
+        return;
+    }
+    let at = 8 + random.below(list.len() - 8);
+    let length = *random.pick(&[1, 2, 4, 4, 16]);
+    if random.chance(1, 2) {
+        let end = list.len().min(at + length);
+        list.drain(at..end);
+    } else {
+        list.splice(at..at, vec![0; length]);
+    }
+    fix_size(list);
+}
+
+/// Gives one entry a size about as small as an entry's parts.
+fn set_small_size(random: &mut Random, list: &mut [u8]) {
+    let starts = entry_starts(list);
+    if !starts.is_empty() {
+        let entry = *random.pick(&starts);
+        list[entry + 2] = random.below(50) as u8;
+        list[entry + 3] = 0;
+    }
+}
+
+/// A byte of an entry's type, flags, size, object word or SID head.
+fn telling_place(random: &mut Random, list: &[u8]) -> usize {
+    let starts = entry_starts(list);
+    if starts.is_empty() {
+        return random.below(8);
+    }
+    let entry = *random.pick(&starts);
+    let kind = list[entry];
+    let is_object = kind == 5 || kind == 6;
+    let sid = entry + sid_place(list, entry, is_object);
+    match random.below(if is_object { 10 } else { 7 }) {
+        0 => entry,
+        1 => entry + 1,
+        2 | 3 => entry + 2,
+        4 => entry + 3,
+        5 => sid,
+        6 => sid + 1,
+        7 | 8 => entry + 8,
+        _ => entry + 9 + random.below(3),
+    }
+}
+
+fn sid_place(list: &[u8], entry: usize, is_object: bool) -> usize {
+    if !is_object {
+        return 8;
+    }
+    let word = list.get(entry + 8).copied().unwrap_or(0);
+    12 + 16 * (word & 3).count_ones() as usize
+}
+
+/// Where entries seem to start, as far as their sizes lead.
+fn entry_starts(list: &[u8]) -> Vec<usize> {
+    let mut starts = Vec::new();
+    let mut at = 8;
+    while let Some(&[_, _, low, high]) = list.get(at..).and_then(|rest| rest.first_chunk()) {
+        starts.push(at);
+        at += usize::from(u16::from_le_bytes([low, high])).max(4);
+    }
+    starts
+}
+
+pub fn mutate_identity(random: &mut Random, mut bytes: Vec<u8>) -> Vec<u8> {
+    match random.below(6) {
+        0 => change_at(random, &mut bytes, 0),
+        1 => change_at(random, &mut bytes, 1),
+        2 => {
+            let at = random.below(bytes.len());
+            change_at(random, &mut bytes, at);
+        }
+        3 => bytes.truncate(random.below(bytes.len() + 1)),
+        4 => {
+            let tail = *random.pick(&[1, 2, 3, 4, 4, 8]);
+            bytes.extend(random.bytes(tail));
+        }
+        // n and the length change together: again one SID, but for n 16
+        _ => {
+            bytes[1] = bytes[1].wrapping_add(1);
+            bytes.extend([0; 4]);
+        }
+    }
+    bytes
+}

@@ -1,0 +1,51 @@
+//! Compares the C library with the second program, layer by layer.
+
+mod capi;
+mod list;
+mod report;
+
+use std::process::ExitCode;
+
+use report::Report;
+
+const USAGE: &str = "usage: compare list --cases N --seed S";
+
+struct Run {
+    layer: fn(usize, u64) -> Report,
+    cases: usize,
+    seed: u64,
+}
+
+fn main() -> ExitCode {
+    let arguments: Vec<String> = std::env::args().skip(1).collect();
+    let words: Vec<&str> = arguments.iter().map(String::as_str).collect();
+    let Some(run) = parse(&words) else {
+        eprintln!("{USAGE}");
+        return ExitCode::FAILURE;
+    };
+    let report = (run.layer)(run.cases, run.seed);
+    print!("{}", report.text());
+    if report.differences() == 0 && report.cases() == run.cases {
+        ExitCode::SUCCESS
+    } else {
+        ExitCode::FAILURE
+    }
+}
+
+fn parse(words: &[&str]) -> Option<Run> {
+    let &[layer, "--cases", cases, "--seed", seed] = words else {
+        return None;
+    };
+    Some(Run {
+        layer: layer_by_name(layer)?,
+        cases: cases.parse().ok().filter(|&cases| cases > 0)?,
+        seed: seed.parse().ok()?,
+    })
+}
+
+fn layer_by_name(name: &str) -> Option<fn(usize, u64) -> Report> {
+    match name {
+        "list" => Some(list::compare),
+        _ => None,
+    }
+}

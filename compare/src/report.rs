@@ -1,0 +1,60 @@
+//! What a comparison found.
+
+use std::collections::BTreeMap;
+
+const SHOWN: usize = 10;
+
+pub struct Report {
+    layer: &'static str,
+    cases: usize,
+    answers: BTreeMap<(&'static str, u32), usize>,
+    differences: usize,
+    shown: Vec<String>,
+}
+
+impl Report {
+    pub fn new(layer: &'static str) -> Report {
+        Report {
+            layer,
+            cases: 0,
+            answers: BTreeMap::new(),
+            differences: 0,
+            shown: Vec::new(),
+        }
+    }
+
+    /// Counts one case by its call and the second program's number.
+    pub fn add(&mut self, call: &'static str, number: u32, difference: Option<String>) {
+        self.cases += 1;
+        *self.answers.entry((call, number)).or_default() += 1;
+        let Some(difference) = difference else {
+            return;
+        };
+        self.differences += 1;
+        if self.shown.len() < SHOWN {
+            self.shown.push(difference);
+        }
+    }
+
+    pub fn cases(&self) -> usize {
+        self.cases
+    }
+
+    pub fn differences(&self) -> usize {
+        self.differences
+    }
+
+    pub fn text(&self) -> String {
+        let mut text = String::new();
+        for ((call, number), count) in &self.answers {
+            text += &format!("{call} {number}: {count} cases\n");
+        }
+        for difference in &self.shown {
+            text += &format!("difference: {difference}\n");
+        }
+        text + &format!(
+            "{}: {} cases, {} differences\n",
+            self.layer, self.cases, self.differences
+        )
+    }
+}

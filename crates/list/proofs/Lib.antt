@@ -1,0 +1,10 @@
+pub mod Little
+pub mod Writes
+pub mod Tests
+pub mod Sids
+pub mod Cases
+pub mod Walks
+pub mod Told
+pub mod Pieces
+pub mod Parts
+pub mod Rows

@@ -1,0 +1,43 @@
+-- The numbers and values that document 01 gives for each case of an answer.
+use Prim.Native.Nat.{ℕ}
+use mathlib.Core.List.{List}
+use Rattle.list.specs.Entry.{access}
+use Rattle.list.specs.List.{readOf}
+use Rattle.list.specs.declared.entries.Checked.{Checked}
+use Rattle.list.specs.declared.entries.Checked.the-variants.{Good, Bad}
+use Rattle.list.specs.declared.lists.Reading.{Reading}
+use Rattle.list.specs.declared.lists.Reading.the-variants.{Done, Refused}
+
+-- the number, which list a refusal concerns, the offset of its entry; length, present or absent, entry count, control
+pub record Values : Type 0 where
+  pub number : ℕ
+  pub list : ℕ
+  pub offset : ℕ
+  pub length : ℕ
+  pub present : ℕ
+  pub count : ℕ
+  pub control : ℕ
+
+-- done, with its values; the others are zero
+abbrev pub done : ℕ → ℕ → ℕ → ℕ → Values
+done len present count control =
+    record { number = 0; list = 0; offset = 0; length = len; present = present; count = count; control = control }
+
+-- a refusal carries its number, its list and its offset; its other fields are zero
+abbrev pub refused : ℕ → ℕ → ℕ → Values
+refused number list offset =
+    record { number = number; list = list; offset = offset; length = 0; present = 0; count = 0; control = 0 }
+
+-- the number of one entry's check: 0 where it is good
+abbrev pub numberOf : Checked → ℕ
+numberOf (Good e) = 0
+numberOf (Bad k) = k
+
+-- the reader's answer: a list that was read is present, with control 0; its refusals concern list 0
+abbrev pub valuesOf : Reading → Values
+valuesOf (Done len n) = done len 1 n 0
+valuesOf (Refused k at) = refused k 0 at
+
+-- what the reader answers for the access list s and a row of m elements
+abbrev pub answerOf : List ℕ → ℕ → Values
+answerOf s m = valuesOf (readOf access s m)

@@ -1,0 +1,112 @@
+-- One entry of a list, read off the bytes t that it begins; what follows it in t is not looked at.
+use Prim.Native.Nat.{ℕ, _+_, _*_, _/_, _%_}
+use mathlib.Core.List.{List}
+use mathlib.Core.Bool.{Bool, true, false, cond, _&&_, _||_}
+use lib.ListN.{length, getD, drop}
+use lib.Dec.{eqb, leb, ltb}
+use Rattle.list.specs.Bytes.{le}
+use Rattle.list.specs.Identity.{sidLen}
+use Rattle.list.specs.declared.entries.Entry.{Entry}
+use Rattle.list.specs.declared.entries.Checked.{Checked}
+use Rattle.list.specs.declared.entries.Checked.the-variants.{Good, Bad}
+
+-- what kind of list an entry stands in: today access lists only
+pub data Family : Type 0 where
+  access : Family
+
+-- types that go on with a SID: 00 allow, 01 deny
+unfoldable pub plainOf : Family → ℕ → Bool
+plainOf access k = leb k 1
+
+-- types that go on with a word, the GUIDs it announces, and a SID: 05 object allow, 06 object deny
+unfoldable pub objectOf : Family → ℕ → Bool
+objectOf access k = eqb k 5 || eqb k 6
+
+-- an object type of any family
+unfoldable pub objectKind : ℕ → Bool
+unfolding objectOf
+objectKind k = objectOf access k
+
+-- the types that a list of revision rev may hold: object types under revision 4 only
+unfoldable pub kindOk : Family → ℕ → ℕ → Bool
+unfolding plainOf objectOf
+kindOk f k rev = plainOf f k || (eqb rev 4 && objectOf f k)
+
+-- the flags that are known: 01, 02, 04, 08, 10
+unfoldable pub flagsOk : Family → ℕ → Bool
+flagsOk access flags = leb flags 31
+
+-- how many bytes of an entry of type k stand before its GUIDs: the head with the mask and, for object types, the word
+unfoldable pub headOf : ℕ → ℕ
+unfolding objectKind
+headOf k = cond (objectKind k) 12 8
+
+-- the fields, each at its place
+abbrev pub kindOf : List ℕ → ℕ
+kindOf t = getD t 0 0
+
+abbrev pub flagsOf : List ℕ → ℕ
+flagsOf t = getD t 1 0
+
+abbrev pub sizeOf : List ℕ → ℕ
+sizeOf t = le 2 (drop 2 t)
+
+abbrev pub maskOf : List ℕ → ℕ
+maskOf t = le 4 (drop 4 t)
+
+-- the object word behind a head of 12 bytes; 0 where the head is shorter
+unfoldable pub wordAfter : ℕ → List ℕ → ℕ
+wordAfter head t = cond (eqb head 12) (le 4 (drop 8 t)) 0
+
+abbrev pub wordOf : List ℕ → ℕ
+wordOf t = wordAfter (headOf (kindOf t)) t
+
+-- the bytes of the GUIDs that an object word announces: value 1 an ObjectType, value 2 an InheritedObjectType
+abbrev pub guidsOf : ℕ → ℕ
+guidsOf word = 16 * (word % 2 + word / 2 % 2)
+
+-- where the SID begins, how long it is, and where it ends
+abbrev pub sidAt : List ℕ → ℕ
+sidAt t = headOf (kindOf t) + guidsOf (wordOf t)
+
+abbrev pub sidLenOf : List ℕ → ℕ
+sidLenOf t = sidLen (drop (sidAt t) t)
+
+abbrev pub sidEnd : List ℕ → ℕ
+sidEnd t = sidAt t + sidLenOf t
+
+-- what may follow the SID in an entry of type k: nothing
+unfoldable pub tailOk : ℕ → ℕ → ℕ → Bool
+tailOk k end size = eqb end size
+
+abbrev pub fieldsOf : List ℕ → Entry
+fieldsOf t =
+    record {
+      kind = kindOf t;
+      flags = flagsOf t;
+      size = sizeOf t;
+      mask = maskOf t;
+      word = wordOf t;
+      sid = sidAt t;
+      «sid_len» = sidLenOf t;
+    }
+
+-- go on where the test holds, else refuse by the number
+unfoldable pub need : Bool → ℕ → Checked → Checked
+need true n rest = rest
+need false n rest = Bad n
+
+-- the check of one entry, (a) to (h)
+unfoldable pub entryOf : Family → ℕ → List ℕ → Checked
+unfolding need
+entryOf f rev t =
+    need (leb 4 (length t)) 2  -- (a) four bytes are there
+    (need (leb (sizeOf t) (length t)) 2  -- and the size is at most what remains
+    (need (kindOk f (kindOf t) rev) 3  -- (b) type
+    (need (flagsOk f (flagsOf t)) 4  -- (c) flags
+    (need (leb (headOf (kindOf t)) (sizeOf t)) 2  -- (d) the size holds the mask and, for object types, the word
+    (need (leb (wordOf t) 3) 4  -- (e) word
+    (need (leb (sidAt t + 8) (sizeOf t)) 2  -- (f) GUIDs and eight SID bytes fit in the size
+    (need (ltb 0 (sidLenOf t)) 5  -- (g) SID
+    (need (tailOk (kindOf t) (sidEnd t) (sizeOf t)) 2  -- (h) exact size
+    (Good (fieldsOf t))))))))))

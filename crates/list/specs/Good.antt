@@ -1,0 +1,57 @@
+-- What a list that reads as done is, with no word of the answer: contracts and laws above go by these.
+use mathlib.Core.Path.{_≡_}
+use mathlib.Core.Bool.{true}
+use mathlib.Core.List.{List, [], _∷_}
+use Prim.Native.Nat.{ℕ, zero, suc, _+_, _≤_, _<_}
+use lib.ListN.{length, drop, getD}
+use Rattle.list.specs.Bytes.{le}
+use Rattle.list.specs.Entry.{Family, kindOk, flagsOk, tailOk, kindOf, sizeOf, flagsOf, headOf, wordOf, sidAt, sidLenOf, sidEnd}
+use Rattle.list.specs.List.{revOk, revOf, countOf, endOf}
+
+-- t passes (a) to (c)
+pub record Begun (f : Family) (rev : ℕ) (t : List ℕ) : Type 0 where
+  pub four : 4 ≤ length t
+  pub within : sizeOf t ≤ length t
+  pub kind : kindOk f (kindOf t) rev ≡ true
+  pub flags : flagsOk f (flagsOf t) ≡ true
+
+-- t begins with a good entry
+pub record Sound (f : Family) (rev : ℕ) (t : List ℕ) : Type 0 where
+  pub four : 4 ≤ length t
+  pub within : sizeOf t ≤ length t
+  pub kind : kindOk f (kindOf t) rev ≡ true
+  pub flags : flagsOk f (flagsOf t) ≡ true
+  pub head : headOf (kindOf t) ≤ sizeOf t
+  pub word : wordOf t ≤ 3
+  pub eight : sidAt t + 8 ≤ sizeOf t
+  pub sid : 0 < sidLenOf t
+  pub tail : tailOk (kindOf t) (sidEnd t) (sizeOf t) ≡ true
+
+-- e is a good entry and nothing more
+pub record Whole (f : Family) (rev : ℕ) (e : List ℕ) : Type 0 where
+  pub sound : Sound f rev e
+  pub whole : sizeOf e ≡ length e
+
+-- t begins with n good entries
+abbrev pub Passes : Family → ℕ → ℕ → List ℕ → Type 0
+Passes f rev zero t = Unit
+Passes f rev (suc n) t = Sound f rev t × Passes f rev n (drop (sizeOf t) t)
+
+pub record Header (s : List ℕ) : Type 0 where
+  pub long : 8 ≤ length s
+  pub rev : revOk (revOf s) ≡ true
+  pub zero : getD s 1 0 ≡ 0
+  pub size : le 2 (drop 2 s) ≡ length s
+  pub zeros : le 2 (drop 6 s) ≡ 0
+
+-- s is a list of n good entries, which fill it
+pub record Listed (f : Family) (s : List ℕ) (n : ℕ) : Type 0 where
+  pub head : Header s
+  pub count : n ≡ countOf s
+  pub passes : Passes f (revOf s) n (drop 8 s)
+  pub ends : endOf n 8 (drop 8 s) ≡ length s
+
+-- each of several entries has P
+abbrev pub Every : (List ℕ → Type 0) → List (List ℕ) → Type 0
+Every P [] = Unit
+Every P (e ∷ es) = P e × Every P es

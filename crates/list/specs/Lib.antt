@@ -1,0 +1,6 @@
+pub mod Bytes
+pub mod Identity
+pub mod Entry
+pub mod List
+pub mod Answer
+pub mod Good

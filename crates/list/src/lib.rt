@@ -1,0 +1,18 @@
+// Reads access lists: fields, identities, entries, whole lists and the index of their entries.
+mod entries;
+mod identities;
+mod lists;
+mod numbers;
+
+pub use entries::Checked;
+pub use entries::Entry;
+pub use entries::entry_of;
+pub use identities::Made;
+pub use identities::Sid;
+pub use identities::guid_at;
+pub use identities::identity;
+pub use identities::placeholder_of;
+pub use identities::same_guid;
+pub use lists::Reading;
+pub use lists::check;
+pub use lists::read;

@@ -1,0 +1,66 @@
+//! The numbers that a call gives back.
+
+use crate::refusal::Refusal;
+
+#[derive(Clone, Copy, Debug, Default, PartialEq, Eq)]
+pub struct Answer {
+    pub number: u32,
+    pub list: u32,
+    pub offset: u32,
+    pub length: u32,
+    pub present: u32,
+    pub count: u32,
+    pub control: u32,
+}
+
+impl Answer {
+    /// A list that is there, outside the computation: control is 0.
+    pub fn done(length: usize, count: usize) -> Answer {
+        Answer {
+            length: narrow(length),
+            present: 1,
+            count: narrow(count),
+            ..Answer::default()
+        }
+    }
+
+    /// A refusal's other fields are zero; from 6 on the offset is too.
+    pub fn refused(refusal: Refusal, list: u32) -> Answer {
+        let number = refusal.fault.number();
+        let concerns_a_list = number < 6;
+        Answer {
+            number,
+            list: if concerns_a_list { list } else { 0 },
+            offset: if concerns_a_list {
+                narrow(refusal.offset)
+            } else {
+                0
+            },
+            ..Answer::default()
+        }
+    }
+
+    /// The seven numbers in the order of the answer's table.
+    pub fn seven(&self) -> [u32; 7] {
+        [
+            self.number,
+            self.list,
+            self.offset,
+            self.length,
+            self.present,
+            self.count,
+            self.control,
+        ]
+    }
+
+    /// The same with the eighth number, which is 0.
+    pub fn eight(&self) -> [u32; 8] {
+        let mut numbers = [0; 8];
+        numbers[..7].copy_from_slice(&self.seven());
+        numbers
+    }
+}
+
+fn narrow(value: usize) -> u32 {
+    u32::try_from(value).expect("lengths and offsets of lists are below 65,536")
+}

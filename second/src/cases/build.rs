@@ -1,0 +1,192 @@
+//! Building good lists, entries and identities, whole or at random.
+
+use crate::list::{Guid, HEADER_LENGTH};
+use crate::random::Random;
+
+pub const MOST_NUMBERS: usize = 15;
+
+pub fn sid(authority: [u8; 6], numbers: &[u32]) -> Vec<u8> {
+    let mut bytes = vec![1, numbers.len() as u8];
+    bytes.extend_from_slice(&authority);
+    for number in numbers {
+        bytes.extend_from_slice(&number.to_le_bytes());
+    }
+    bytes
+}
+
+/// S-1-5 followed by the numbers.
+pub fn nt_sid(numbers: &[u32]) -> Vec<u8> {
+    sid([0, 0, 0, 0, 0, 5], numbers)
+}
+
+pub fn creator_sid(which: u32) -> Vec<u8> {
+    sid([0, 0, 0, 0, 0, 3], &[which])
+}
+
+pub fn random_sid(random: &mut Random, count: usize) -> Vec<u8> {
+    if count == 1 && random.chance(1, 4) {
+        return creator_sid(random.below(3) as u32);
+    }
+    let mut bytes = vec![1, count as u8];
+    bytes.extend(random.bytes(6 + 4 * count));
+    bytes
+}
+
+/// No byte of these looks like a SID's start.
+fn counting_guids() -> [Guid; 2] {
+    [0x40, 0x50].map(|first| std::array::from_fn(|place| first + place as u8))
+}
+
+/// Some begin as a SID does.
+fn random_guid(random: &mut Random) -> Guid {
+    let mut guid: Guid = std::array::from_fn(|_| random.byte());
+    if random.chance(1, 4) {
+        guid[..2].copy_from_slice(&[1, random.below(4) as u8]);
+    }
+    guid
+}
+
+/// The parts of one entry that is to be good.
+#[derive(Clone)]
+pub struct EntryPlan {
+    pub entry_type: u8,
+    pub flags: u8,
+    pub mask: u32,
+    /// Which GUIDs an object entry has, 0 to 3.
+    pub word: u32,
+    /// ObjectType and InheritedObjectType, written where the word has them.
+    pub guids: [Guid; 2],
+    pub sid: Vec<u8>,
+}
+
+impl EntryPlan {
+    pub fn plain(entry_type: u8, flags: u8, sid: Vec<u8>) -> EntryPlan {
+        EntryPlan {
+            entry_type,
+            flags,
+            mask: 0x001F_01FF,
+            word: 0,
+            guids: counting_guids(),
+            sid,
+        }
+    }
+
+    pub fn object(entry_type: u8, flags: u8, word: u32, sid: Vec<u8>) -> EntryPlan {
+        EntryPlan {
+            word,
+            ..EntryPlan::plain(entry_type, flags, sid)
+        }
+    }
+
+    pub fn random(random: &mut Random, with_objects: bool) -> EntryPlan {
+        let types: &[u8] = if with_objects { &[0, 1, 5, 6] } else { &[0, 1] };
+        let numbers = match random.below(10) {
+            0 => random.below(MOST_NUMBERS + 1),
+            small => small % 4,
+        };
+        EntryPlan {
+            entry_type: *random.pick(types),
+            flags: random.byte() & 0x1F,
+            mask: random.word(),
+            word: random.below(4) as u32,
+            guids: [random_guid(random), random_guid(random)],
+            sid: random_sid(random, numbers),
+        }
+    }
+
+    pub fn is_object(&self) -> bool {
+        self.entry_type == 5 || self.entry_type == 6
+    }
+
+    /// Where the SID stands, counted from the entry's first byte.
+    pub fn sid_at(&self) -> usize {
+        if self.is_object() {
+            12 + 16 * self.word.count_ones() as usize
+        } else {
+            8
+        }
+    }
+
+    pub fn size(&self) -> usize {
+        self.sid_at() + self.sid.len()
+    }
+
+    pub fn bytes(&self) -> Vec<u8> {
+        let mut bytes = vec![self.entry_type, self.flags];
+        bytes.extend_from_slice(&(self.size() as u16).to_le_bytes());
+        bytes.extend_from_slice(&self.mask.to_le_bytes());
+        if self.is_object() {
+            bytes.extend_from_slice(&self.word.to_le_bytes());
+        }
+        for (place, guid) in self.guids.iter().enumerate() {
+            if self.is_object() && self.word >> place & 1 == 1 {
+                bytes.extend_from_slice(guid);
+            }
+        }
+        bytes.extend_from_slice(&self.sid);
+        bytes
+    }
+}
+
+/// Puts the header before entries that may be good or not.
+pub fn list_of(revision: u8, entries: &[Vec<u8>]) -> Vec<u8> {
+    let mut list = vec![revision, 0, 0, 0, 0, 0, 0, 0];
+    list.extend(entries.concat());
+    set_count(&mut list, entries.len());
+    fix_size(&mut list);
+    list
+}
+
+pub fn list_of_plans(revision: u8, plans: &[EntryPlan]) -> Vec<u8> {
+    let entries: Vec<Vec<u8>> = plans.iter().map(EntryPlan::bytes).collect();
+    list_of(revision, &entries)
+}
+
+pub fn random_list(random: &mut Random, revision: u8, count: usize) -> Vec<u8> {
+    let plans: Vec<EntryPlan> = (0..count)
+        .map(|_| EntryPlan::random(random, revision == 4))
+        .collect();
+    list_of_plans(revision, &plans)
+}
+
+/// Makes the size field the length, cut to 16 bits.
+pub fn fix_size(list: &mut [u8]) {
+    if list.len() >= HEADER_LENGTH {
+        let length = list.len() as u16;
+        set_size(list, length);
+    }
+}
+
+pub fn set_size(list: &mut [u8], size: u16) {
+    list[2..4].copy_from_slice(&size.to_le_bytes());
+}
+
+pub fn set_count(list: &mut [u8], count: usize) {
+    list[4..6].copy_from_slice(&(count as u16).to_le_bytes());
+}
+
+#[cfg(test)]
+mod tests {
+    use super::*;
+
+    #[test]
+    fn an_entry_is_laid_out_as_document_01_says() {
+        let plan = EntryPlan {
+            mask: 0x8000_0000,
+            ..EntryPlan::plain(0, 3, creator_sid(0))
+        };
+        let parent = [
+            2, 0, 0x1C, 0, 1, 0, 0, 0, 0, 3, 0x14, 0, 0, 0, 0, 0x80, 1, 1, 0, 0, 0, 0, 0, 3, 0, 0,
+            0, 0,
+        ];
+        assert_eq!(list_of_plans(2, &[plan]), parent);
+    }
+
+    #[test]
+    fn object_entries_hold_word_and_guids() {
+        let bytes = EntryPlan::object(5, 0, 3, nt_sid(&[])).bytes();
+        assert_eq!(bytes.len(), 8 + 4 + 32 + 8);
+        assert_eq!(bytes[8..13], [3, 0, 0, 0, 0x40]);
+        assert_eq!(bytes[44..46], [1, 0]);
+    }
+}

@@ -1,0 +1,78 @@
+//! The stored cases for reading lists and identities.
+
+mod boundaries;
+mod byte_changes;
+mod fault_pairs;
+mod identities;
+mod noise;
+mod rows;
+mod single_faults;
+mod spoil;
+mod valid;
+
+use std::collections::HashSet;
+
+use crate::examples::Example;
+use crate::random::Random;
+use crate::records::Case;
+
+const SEED: u64 = 1;
+
+/// All cases in the order of the file; the examples written by hand come first.
+pub fn all(examples: &[Example]) -> Vec<Case> {
+    let mut random = Random::new(SEED);
+    let mut made = Vec::new();
+    made.extend(valid::cases(&mut random));
+    made.extend(single_faults::cases());
+    made.extend(fault_pairs::cases());
+    made.extend(byte_changes::cases(&mut random));
+    made.extend(noise::cases(&mut random));
+    made.extend(boundaries::cases());
+    made.extend(rows::cases(&mut random));
+    made.extend(identities::cases(&mut random));
+
+    let mut all: Vec<Case> = examples.iter().map(Example::case).collect();
+    let mut seen: HashSet<Case> = all.iter().cloned().collect();
+    all.extend(made.into_iter().filter(|case| seen.insert(case.clone())));
+    all
+}
+
+/// Rows at least as long as the count, some with elements past it.
+fn ample_row(count: usize, place: usize) -> usize {
+    count + place % 3
+}
+
+#[cfg(test)]
+mod tests {
+    use super::*;
+    use crate::refusal::Fault;
+    use crate::tally::Tally;
+
+    #[test]
+    fn every_test_is_reached_often() {
+        let tally = Tally::of(&all(&[]));
+        for fault in Fault::ALL {
+            let label = format!("read {}  {}", fault.number(), fault.name());
+            assert!(tally.count(&label) >= 15, "{label}");
+        }
+        for label in ["read 0", "identity 0", "identity 6"] {
+            assert!(tally.count(label) >= 100, "{label}");
+        }
+        for label in ["identity 1", "identity 2"] {
+            assert!(tally.count(label) >= 1, "{label}");
+        }
+    }
+
+    #[test]
+    fn the_file_stays_small_and_the_same() {
+        let encode_all = || {
+            let mut file = Vec::new();
+            all(&[]).iter().for_each(|case| case.encode(&mut file));
+            file
+        };
+        let file = encode_all();
+        assert!(file.len() <= 1_500_000);
+        assert!((3_000..=4_600).contains(&all(&[]).len()));
+        assert_eq!(file, encode_all());
+    }
+}

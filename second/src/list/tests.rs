@@ -1,0 +1,129 @@
+use super::*;
+use crate::hex;
+
+/// The parent that document 01 works with.
+const PARENT: &str = "02001C0001000000 0003140000000080 0101000000000003 00000000";
+/// One object entry with an ObjectType and S-1-5.
+const OBJECT: &str = "0400 2C00 0100 0000 \
+    05 00 2400 01000000 01000000 00112233445566778899AABBCCDDEEFF 01 00 000000000005";
+/// Two entries of 16 bytes each, S-1-5.
+const PAIR: &str = "0200 2800 0200 0000 \
+    00 00 1000 01000000 01 00 000000000005 01 1F 1000 02000000 01 00 000000000005";
+
+fn bytes(text: &str) -> Vec<u8> {
+    hex::decode(text).unwrap()
+}
+
+fn changed(text: &str, changes: &[(usize, u8)]) -> Vec<u8> {
+    let mut list = bytes(text);
+    for &(at, value) in changes {
+        list[at] = value;
+    }
+    list
+}
+
+fn refusal(list: &[u8]) -> (u32, usize) {
+    let refusal = List::parse(list).unwrap_err();
+    (refusal.fault.number(), refusal.offset)
+}
+
+#[test]
+fn fields_of_a_plain_entry() {
+    let list = bytes(PARENT);
+    let parsed = List::parse(&list).unwrap();
+    assert_eq!(parsed.revision, Revision::Plain);
+    assert_eq!(parsed.entries.len(), 1);
+    let entry = &parsed.entries[0];
+    assert_eq!((entry.offset, entry.bytes.len()), (8, 20));
+    assert_eq!(entry.entry_type, EntryType::Allow);
+    assert_eq!((entry.flags, entry.mask), (3, 0x80000000));
+    assert_eq!(entry.object_type, None);
+    assert_eq!(entry.sid, &list[16..]);
+}
+
+#[test]
+fn fields_of_an_object_entry() {
+    let list = bytes(OBJECT);
+    let parsed = List::parse(&list).unwrap();
+    let entry = &parsed.entries[0];
+    assert_eq!(entry.entry_type, EntryType::ObjectAllow);
+    assert_eq!(entry.object_type.unwrap()[..2], [0x00, 0x11]);
+    assert_eq!(entry.inherited_object_type, None);
+    assert_eq!(entry.sid, [1, 0, 0, 0, 0, 0, 0, 5]);
+}
+
+#[test]
+fn empty_lists_are_good() {
+    for text in ["0200080000000000", "0400080000000000"] {
+        assert!(List::parse(&bytes(text)).unwrap().entries.is_empty());
+    }
+}
+
+#[test]
+fn headers() {
+    assert_eq!(refusal(&[]), (1, 0));
+    assert_eq!(refusal(&bytes("02000700000000")), (1, 0));
+    assert_eq!(refusal(&changed(PARENT, &[(0, 3)])), (1, 0));
+    assert_eq!(refusal(&changed(PARENT, &[(1, 1)])), (1, 0));
+    assert_eq!(refusal(&changed(PARENT, &[(2, 0x1B)])), (1, 0));
+    assert_eq!(refusal(&changed(PARENT, &[(6, 1)])), (1, 0));
+    assert_eq!(refusal(&changed(PARENT, &[(7, 0x80)])), (1, 0));
+}
+
+#[test]
+fn a_list_of_65536_bytes_is_refused_by_its_header() {
+    let mut list = vec![0; 65_536];
+    list[0] = 2;
+    assert_eq!(refusal(&list), (1, 0));
+}
+
+#[test]
+fn counts_that_do_not_fit() {
+    assert_eq!(refusal(&changed(PAIR, &[(4, 3)])), (2, 40));
+    assert_eq!(refusal(&changed(PAIR, &[(4, 1)])), (2, 24));
+    assert_eq!(refusal(&changed(PAIR, &[(4, 0)])), (2, 8));
+}
+
+#[test]
+fn entry_checks_in_order() {
+    // (a) before (b): the size is one past what remains
+    assert_eq!(refusal(&changed(PAIR, &[(26, 17), (24, 9)])), (2, 24));
+    // (b) before (c) and (d)
+    assert_eq!(
+        refusal(&changed(PAIR, &[(24, 9), (25, 0x20), (26, 0)])),
+        (3, 24)
+    );
+    // (c) before (d)
+    assert_eq!(refusal(&changed(PAIR, &[(25, 0x20), (26, 0)])), (4, 24));
+    // (d) for a plain type, sizes 0 and 7
+    assert_eq!(refusal(&changed(PAIR, &[(26, 0)])), (2, 24));
+    assert_eq!(refusal(&changed(PAIR, &[(26, 7)])), (2, 24));
+    // (d) before (e): size 11 cuts the word
+    assert_eq!(refusal(&changed(OBJECT, &[(10, 11), (16, 4)])), (2, 8));
+    // (e) before (f)
+    assert_eq!(refusal(&changed(OBJECT, &[(10, 12), (16, 4)])), (4, 8));
+    assert_eq!(refusal(&changed(OBJECT, &[(19, 0x80)])), (4, 8));
+    // (f) before (g): a second GUID leaves no SID
+    assert_eq!(refusal(&changed(OBJECT, &[(16, 3), (36, 2)])), (2, 8));
+    // (g) before (h)
+    assert_eq!(refusal(&changed(PAIR, &[(16, 2), (17, 1)])), (5, 8));
+    assert_eq!(refusal(&changed(PAIR, &[(17, 16)])), (5, 8));
+    // (h)
+    assert_eq!(refusal(&changed(PAIR, &[(17, 1)])), (2, 8));
+}
+
+#[test]
+fn object_types_ask_for_revision_4() {
+    assert_eq!(refusal(&changed(OBJECT, &[(0, 2)])), (3, 8));
+}
+
+#[test]
+fn the_first_bad_entry_decides() {
+    assert_eq!(refusal(&changed(PAIR, &[(16, 2), (24, 9)])), (5, 8));
+}
+
+#[test]
+fn three_bytes_are_no_entry() {
+    let list = bytes("02000B0001000000 000000");
+    assert_eq!(refusal(&list), (2, 8));
+}

@@ -1,0 +1,138 @@
+//! The case file's records and the answers to them.
+
+use crate::identity::{self, Identity, LONGEST};
+use crate::reading;
+use crate::{answer::Answer, hex};
+
+const KIND_READ: u8 = 1;
+const KIND_IDENTITY: u8 = 2;
+
+#[derive(Clone, Debug, PartialEq, Eq, Hash)]
+pub enum Case {
+    Read { row_length: u16, list: Vec<u8> },
+    Identity(Vec<u8>),
+}
+
+impl Case {
+    pub fn read(row_length: usize, list: Vec<u8>) -> Case {
+        let row_length = u16::try_from(row_length).expect("rows of cases are short");
+        Case::Read { row_length, list }
+    }
+
+    pub fn encode(&self, out: &mut Vec<u8>) {
+        let (kind, row_length, payload) = match self {
+            Case::Read { row_length, list } => (KIND_READ, *row_length, list),
+            Case::Identity(bytes) => (KIND_IDENTITY, 0, bytes),
+        };
+        out.extend_from_slice(&[kind, 0]);
+        out.extend_from_slice(&row_length.to_le_bytes());
+        out.extend_from_slice(&(payload.len() as u32).to_le_bytes());
+        out.extend_from_slice(payload);
+    }
+}
+
+/// Takes all records of a case file, or says what is wrong with one.
+pub fn decode_all(mut file: &[u8]) -> Result<Vec<Case>, String> {
+    let whole = file.len();
+    let mut cases = Vec::new();
+    while !file.is_empty() {
+        let at = whole - file.len();
+        let (case, rest) = decode(file).map_err(|why| format!("record at {at}: {why}"))?;
+        cases.push(case);
+        file = rest;
+    }
+    Ok(cases)
+}
+
+fn decode(file: &[u8]) -> Result<(Case, &[u8]), &'static str> {
+    let (head, rest) = file.split_first_chunk::<8>().ok_or("cut head")?;
+    let &[kind, zero, row_low, row_high, ref length @ ..] = head;
+    let length = u32::from_le_bytes(*length) as usize;
+    let (payload, rest) = rest.split_at_checked(length).ok_or("cut payload")?;
+    let row_length = u16::from_le_bytes([row_low, row_high]);
+    let case = match (kind, zero, row_length) {
+        (KIND_READ, 0, _) => Case::Read {
+            row_length,
+            list: payload.to_vec(),
+        },
+        (KIND_IDENTITY, 0, 0) => Case::Identity(payload.to_vec()),
+        _ => return Err("unknown head"),
+    };
+    Ok((case, rest))
+}
+
+/// Before a read, the row's element i holds 65535 - i.
+pub fn fresh_row(length: u16) -> Vec<u16> {
+    (0..length).map(|i| u16::MAX - i).collect()
+}
+
+/// The answer's line, with its newline.
+pub fn answer_line(case: &Case) -> String {
+    let mut line = match case {
+        Case::Read { row_length, list } => read_line(*row_length, list),
+        Case::Identity(bytes) => identity_line(bytes),
+    };
+    line.push('\n');
+    line
+}
+
+fn read_line(row_length: u16, list: &[u8]) -> String {
+    let mut row = fresh_row(row_length);
+    let answer: Answer = reading::read(list, &mut row);
+    let numbers = answer
+        .seven()
+        .into_iter()
+        .chain(row.iter().map(|&o| o.into()));
+    let words: Vec<String> = numbers.map(|number| number.to_string()).collect();
+    words.join(" ")
+}
+
+fn identity_line(bytes: &[u8]) -> String {
+    let (length, buffer) = match Identity::parse(bytes) {
+        Some(identity) => (bytes.len(), identity.buffer()),
+        None => (0, [0; LONGEST]),
+    };
+    let number = identity::classify(bytes);
+    format!("{number} {length} {}", hex::encode(&buffer))
+}
+
+#[cfg(test)]
+mod tests {
+    use super::*;
+
+    #[test]
+    fn records_come_back() {
+        let cases = vec![
+            Case::read(3, vec![1, 2, 3]),
+            Case::Identity(vec![]),
+            Case::read(0, vec![]),
+        ];
+        let mut file = Vec::new();
+        for case in &cases {
+            case.encode(&mut file);
+        }
+        assert_eq!(file[..11], [1, 0, 3, 0, 3, 0, 0, 0, 1, 2, 3]);
+        assert_eq!(decode_all(&file).unwrap(), cases);
+        assert!(decode_all(&file[..10]).is_err());
+    }
+
+    #[test]
+    fn lines() {
+        let empty = vec![2, 0, 8, 0, 0, 0, 0, 0];
+        assert_eq!(
+            answer_line(&Case::read(2, empty)),
+            "0 0 0 8 1 0 0 65535 65534\n"
+        );
+        assert_eq!(answer_line(&Case::read(0, vec![])), "1 0 0 0 0 0 0\n");
+        let zeros = "0".repeat(136);
+        assert_eq!(
+            answer_line(&Case::Identity(vec![])),
+            format!("6 0 {zeros}\n")
+        );
+        let owner = vec![1, 1, 0, 0, 0, 0, 0, 3, 0, 0, 0, 0];
+        assert_eq!(
+            answer_line(&Case::Identity(owner)),
+            format!("1 12 0101000000000003{}\n", "0".repeat(120))
+        );
+    }
+}

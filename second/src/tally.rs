@@ -1,0 +1,52 @@
+//! How often each answer, and each test behind it, is met by the cases.
+
+use std::collections::BTreeMap;
+
+use crate::identity;
+use crate::reading;
+use crate::records::{Case, fresh_row};
+
+#[derive(Default)]
+pub struct Tally {
+    counts: BTreeMap<String, usize>,
+}
+
+impl Tally {
+    pub fn of(cases: &[Case]) -> Tally {
+        let mut tally = Tally::default();
+        for case in cases {
+            tally.add(label(case));
+        }
+        tally
+    }
+
+    pub fn add(&mut self, label: String) {
+        *self.counts.entry(label).or_default() += 1;
+    }
+
+    pub fn count(&self, label: &str) -> usize {
+        self.counts.get(label).copied().unwrap_or(0)
+    }
+
+    pub fn lines(&self) -> String {
+        let lines = self.counts.iter();
+        lines
+            .map(|(label, count)| format!("{count:>8}  {label}\n"))
+            .collect()
+    }
+}
+
+fn label(case: &Case) -> String {
+    match case {
+        Case::Identity(bytes) => format!("identity {}", identity::classify(bytes)),
+        Case::Read { row_length, list } => {
+            match reading::try_read(list, &mut fresh_row(*row_length)) {
+                Ok(_) => "read 0".to_string(),
+                Err(refusal) => {
+                    let fault = refusal.fault;
+                    format!("read {}  {}", fault.number(), fault.name())
+                }
+            }
+        }
+    }
+}
