@@ -8,3 +8,7 @@ pub mod Told
 pub mod Pieces
 pub mod Parts
 pub mod Rows
+pub mod Determinacy
+pub mod Answers
+pub mod Determined
+pub mod Examples

@@ -1,10 +1,9 @@
 -- Bytes: little-endian numbers, equality, and what a writer leaves. A byte list is `List ℕ`.
 use Prim.Native.Nat.{ℕ, zero, suc, _+_, _*_, _/_, _%_, _<_}
 use mathlib.Core.List.{List, [], _∷_, _++_}
-use mathlib.Core.Bool.{Bool, true, false, _&&_}
+use mathlib.Core.Bool.{Bool, true, false, cond, _&&_}
 use lib.ListN.{length, getD, take, drop, replicate}
 use lib.Dec.{eqb, leb}
-use mathlib.Core.Bool.{cond}
 
 -- every element is a byte
 abbrev pub Bytes : List ℕ → Type 0

@@ -24,12 +24,10 @@ objectOf access k = eqb k 5 || eqb k 6
 
 -- an object type of any family
 unfoldable pub objectKind : ℕ → Bool
-unfolding objectOf
 objectKind k = objectOf access k
 
 -- the types that a list of revision rev may hold: object types under revision 4 only
 unfoldable pub kindOk : Family → ℕ → ℕ → Bool
-unfolding plainOf objectOf
 kindOk f k rev = plainOf f k || (eqb rev 4 && objectOf f k)
 
 -- the flags that are known: 01, 02, 04, 08, 10
@@ -38,7 +36,6 @@ flagsOk access flags = leb flags 31
 
 -- how many bytes of an entry of type k stand before its GUIDs: the head with the mask and, for object types, the word
 unfoldable pub headOf : ℕ → ℕ
-unfolding objectKind
 headOf k = cond (objectKind k) 12 8
 
 -- the fields, each at its place
@@ -98,7 +95,6 @@ need false n rest = Bad n
 
 -- the check of one entry, (a) to (h)
 unfoldable pub entryOf : Family → ℕ → List ℕ → Checked
-unfolding need
 entryOf f rev t =
     need (leb 4 (length t)) 2  -- (a) four bytes are there
     (need (leb (sizeOf t) (length t)) 2  -- and the size is at most what remains

@@ -14,7 +14,6 @@ sidLen s = cond (eqb (getD s 0 0) 1 && leb (getD s 1 0) 15) (8 + 4 * getD s 1 0)
 
 -- exactly one SID
 unfoldable pub isSid : List ℕ → Bool
-unfolding sidLen
 isSid s = ltb 0 (sidLen s) && eqb (length s) (sidLen s)
 
 -- the two placeholders: S-1-3-0, creator owner, and S-1-3-1, creator group
@@ -27,7 +26,6 @@ placeholderOf s = cond (sameBytes s (creator 0)) 1 (cond (sameBytes s (creator 1
 
 -- 6 where the bytes aren't exactly one SID, else which placeholder they are
 unfoldable pub identityOf : List ℕ → ℕ
-unfolding isSid placeholderOf
 identityOf s = cond (isSid s) (placeholderOf s) 6
 
 -- an identity's buffer: its bytes, and zeros up to 68
@@ -40,7 +38,6 @@ bytesOf i = take (i .len) (i .bytes)
 
 -- an identity is made of exactly one SID; of other bytes it is refused, with nothing in it
 unfoldable pub madeOf : List ℕ → Made
-unfolding isSid
 madeOf s =
     cond (isSid s)
     (record { ok = true; sid = record { bytes = padded s; len = length s } })

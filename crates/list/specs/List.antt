@@ -17,7 +17,6 @@ revOk rev = eqb rev 2 || eqb rev 4
 
 -- revision (2 or 4), a zero byte, 16-bit size, 16-bit entry count, two zero bytes; the size equals the length handed in
 unfoldable pub headerOk : List ℕ → Bool
-unfolding revOk
 headerOk s =
     leb 8 (length s)
     && (revOk (getD s 0 0)
@@ -38,7 +37,6 @@ cut (suc n) t = take (sizeOf t) t ∷ cut n (drop (sizeOf t) t)
 
 -- the entries of a list, each as its bytes
 unfoldable pub entriesOf : List ℕ → List (List ℕ)
-unfolding cut
 entriesOf s = cut (countOf s) (drop 8 s)
 
 -- where n entries end, the first at `at`
@@ -53,7 +51,6 @@ offsets (suc n) at t = at ∷ offsets n (at + sizeOf t) (drop (sizeOf t) t)
 
 -- the bytes of a list of revision rev that holds the entries es
 unfoldable pub render : ℕ → List (List ℕ) → List ℕ
-unfolding spell
 render rev es =
     (rev ∷ 0 ∷ []) ++ (spell 2 (8 + length (flatten es)) ++ (spell 2 (length es) ++ ((0 ∷ 0 ∷ []) ++ flatten es)))
 
@@ -64,7 +61,6 @@ onGood (Bad k) at rest = Refused k at
 
 -- n entries begin t, which lies at `at`: then `done` of where they end; else the earliest refusal
 unfoldable pub walkOf : Family → ℕ → ℕ → ℕ → List ℕ → (ℕ → Reading) → Reading
-unfolding onGood
 walkOf f rev zero at t done = done at
 walkOf f rev (suc n) at t done = onGood (entryOf f rev t) at (walkOf f rev n (at + sizeOf t) (drop (sizeOf t) t) done)
 
@@ -74,7 +70,6 @@ finish len n end = cond (eqb end len) (Done len n) (Refused 2 end)
 
 -- a list without its index: the header (1), entry after entry (2 to 5), bytes that remain (2)
 unfoldable pub checkOf : Family → List ℕ → Reading
-unfolding headerOk walkOf finish
 checkOf f s =
     cond (headerOk s)
     (walkOf f (revOf s) (countOf s) 8 (drop 8 s) (finish (length s) (countOf s)))
@@ -87,11 +82,9 @@ withRow m (Refused k at) = Refused k at
 
 -- what the reader answers for the list s and a row of m elements
 unfoldable pub readOf : Family → List ℕ → ℕ → Reading
-unfolding checkOf withRow
 readOf f s m = withRow m (checkOf f s)
 
 -- the row afterwards: the offsets up to the count and the rest unchanged; as it was where the list is refused
 unfoldable pub rowBy : Reading → List ℕ → List ℕ → List ℕ
-unfolding offsets
 rowBy (Done len n) s row = offsets n 8 (drop 8 s) ++ drop n row
 rowBy (Refused k at) s row = row

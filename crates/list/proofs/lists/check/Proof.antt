@@ -1,17 +1,19 @@
 -- A bad header, or the walk over the entries. Assumes nothing.
 use borrow.Author.Needs.{needs}
 use native.Mathlib.Omega.{arith}
-use mathlib.Core.Path.{_≡_, sym, _∙_}
-use mathlib.Core.Bool.{true, false}
-use Prim.Native.Nat.{_+_}
+use mathlib.Core.Path.{_≡_, sym, ap, _∙_}
+use mathlib.Core.Bool.{true}
+use Prim.Native.Nat.{ℕ, _+_}
 use borrow.Author.Tests.{not-true, not-false}
 use denote.Ref.{now}
-use lib.ListN.{drop}
+use lib.ListN.{length, drop}
 use lib.Seq.{getD-drop}
-use Rattle.list.specs.List.{headerOk, checkOf}
+use Rattle.list.specs.Entry.{access}
+use Rattle.list.specs.List.{headerOk, revOf, walkOf, finish}
 use Rattle.list.specs.Good.{Header}
 use Rattle.list.proofs.Little.{le-lt}
 use Rattle.list.proofs.Walks.{header}
+use Rattle.list.proofs.Told.{check-header, check-walk}
 use Rattle.list.proofs.lists.check.Statement.{statement}
 use Rattle.list.proofs.lists.check.Tie as tie
 
@@ -25,10 +27,7 @@ header-ok-requires : tie.Need-header-ok-requires
 header-ok-requires c κs = search needs
 
 returns : tie.Need-returns
-unfolding checkOf
-returns c =
-    let e : headerOk (now (c .before .before .before .args .list)) ≡ false = sym (c .before .header-ok .ensures) ∙ not-true _ (c .if1 .taken) in
-    rw e
+returns c = sym (check-header access _ (sym (c .before .header-ok .ensures) ∙ not-true _ (c .if1 .taken)))
 
 shared-slice-read-walk : tie.Need-shared-slice-read-walk
 shared-slice-read-walk c = omega (arith, head-is (c .before))
@@ -42,8 +41,11 @@ walk-requires c κs =
     omega (arith, head-is (c .before .before), le-lt 2 (drop 2 s) (λ i. rw getD-drop (c .before .shared-slice-known2 .given (2 + i) .fits)))
 
 returns-2 : tie.Need-returns-2
-unfolding checkOf
-returns-2 c = rw (head-yes (c .before .before .before), ← c .before .half-at .ensures) (c .walk .ensures)
+returns-2 c =
+    let s = now (c .before .before .before .before .before .before .args .list) in
+    c .walk .ensures
+    ∙ ap (λ (n : ℕ). walkOf access (revOf s) n 8 (drop 8 s) (finish (length s) n)) (c .before .half-at .ensures)
+    ∙ sym (check-walk access s (head-yes (c .before .before .before)))
 
 pub check-spec : {M : Type 1} → statement M
 check-spec =

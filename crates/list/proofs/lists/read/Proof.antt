@@ -1,14 +1,13 @@
 -- What `check` found decides, then the room in the row. Assumes nothing.
 use borrow.Author.Needs.{needs}
 use mathlib.Core.Path.{_≡_, sym, ap, _∙_}
-use borrow.Author.Tests.{le-leb, lt-leb}
 use denote.Ref.{now}
 use lib.ListN.{length}
 use Rattle.list.specs.Entry.{access}
-use Rattle.list.specs.List.{checkOf, withRow, readOf, rowBy}
+use Rattle.list.specs.List.{checkOf}
 use Rattle.list.specs.Answer.{valuesOf}
 use Rattle.list.specs.declared.lists.Reading.the-variants.{Done, Refused}
-use Rattle.list.proofs.Told.{told}
+use Rattle.list.proofs.Told.{told, read-refused, read-short, read-done}
 use Rattle.list.proofs.lists.read.Statement.{statement}
 use Rattle.list.proofs.lists.read.Tie as tie
 
@@ -32,28 +31,25 @@ cast-if1 : tie.Need-cast-if1
 cast-if1 c = search needs
 
 returns : tie.Need-returns
-unfolding readOf withRow rowBy
 returns c =
-    let e = done-here (c .before .before) in
-    (rw (e, lt-leb _ _ (c .if1 .taken)), rw (e, lt-leb _ _ (c .if1 .taken)))
+    let h = read-short access _ _ _ _ (done-here (c .before .before)) (c .if1 .taken) in
+    (ap valuesOf (h .answer), h .index)
 
 fill-requires : tie.Need-fill-requires
 fill-requires c κs = (told access _ _ _ (done-here (c .before .before .before)) .listed, c .before .if1 .left)
 
 returns-2 : tie.Need-returns-2
-unfolding readOf withRow rowBy
 returns-2 c =
-    let e = bad-here (c .before) in
-    (rw e, rw e)
+    let h = read-refused access _ _ _ _ (bad-here (c .before)) in
+    (ap valuesOf (h .answer), h .index)
 
 same-length : tie.Need-same-length
 same-length c = search needs
 
 returns-3 : tie.Need-returns-3
-unfolding readOf withRow rowBy
 returns-3 c =
-    let e = done-here (c .before .before .before .before .before .before) in
-    (rw (e, le-leb _ _ (c .before .before .before .before .if1 .left)), rw (e, le-leb _ _ (c .before .before .before .before .if1 .left)) (c .before .before .fill .ensures))
+    let h = read-done access _ _ _ _ (done-here (c .before .before .before .before .before .before)) (c .before .before .before .before .if1 .left) in
+    (ap valuesOf (h .answer), c .before .before .fill .ensures ∙ h .index)
 
 pub read-spec : {M : Type 1} → statement M
 read-spec =

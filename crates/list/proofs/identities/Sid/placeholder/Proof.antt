@@ -26,7 +26,7 @@ slice-aggregate-placeholder-of : tie.Need-slice-aggregate-placeholder-of
 slice-aggregate-placeholder-of c =
     let i = c .before .before .before .args .self in
     let e : length (i .bytes) ≡ 68 = search needs in
-    sym (length-take-le _ _ (omega arith))
+    sym (length-take-le (i .len) (i .bytes) (omega arith))
 
 placeholder-of-requires : tie.Need-placeholder-of-requires
 placeholder-of-requires c κs = search needs

@@ -1,0 +1,29 @@
+# make test     the gate: everything is proved, run and compared (.ci/run)
+# make lib      libpipeteasel.a, for C and whatever calls C (include/pipeteasel.h)
+# make compare  the C library against the independent second program: CASES fresh cases from SEED
+# make cases    the stored cases and their answers anew, both by the second program
+
+CASES ?= 100000
+SEED ?= 1
+CARGO = cargo build --quiet --release --offline --target-dir target/cargo
+SECOND = target/cargo/release/second
+
+.PHONY: test lib second compare cases
+
+test:
+	bash .ci/run
+
+lib:
+	rt staticlib capi
+	cp target/staticlib/libcapi.a libpipeteasel.a
+
+second:
+	$(CARGO) --manifest-path second/Cargo.toml
+
+compare: lib
+	$(CARGO) --manifest-path compare/Cargo.toml
+	target/cargo/release/compare list --cases $(CASES) --seed $(SEED)
+
+cases: second
+	$(SECOND) cases list examples/lists.txt > crates/vectors_list/stdin
+	$(SECOND) answer < crates/vectors_list/stdin > crates/vectors_list/stdout
