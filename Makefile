@@ -2,13 +2,14 @@
 # make lib      libpipeteasel.a, for C and whatever calls C (include/pipeteasel.h)
 # make compare  the C library against the independent second program: CASES fresh cases from SEED
 # make cases    the stored cases and their answers anew, both by the second program
+# make bench    instructions by callgrind (not a test)
 
 CASES ?= 100000
 SEED ?= 1
 CARGO = cargo build --quiet --release --offline --target-dir target/cargo
 SECOND = target/cargo/release/second
 
-.PHONY: test lib second compare cases
+.PHONY: test lib second compare cases bench
 
 test:
 	bash .ci/run
@@ -23,7 +24,14 @@ second:
 compare: lib
 	$(CARGO) --manifest-path compare/Cargo.toml
 	target/cargo/release/compare list --cases $(CASES) --seed $(SEED)
+	target/cargo/release/compare compute --cases $(CASES) --seed $(SEED)
 
 cases: second
 	$(SECOND) cases list examples/lists.txt > crates/vectors_list/stdin
 	$(SECOND) answer < crates/vectors_list/stdin > crates/vectors_list/stdout
+	$(SECOND) cases inherit > crates/vectors_inherit/stdin
+	$(SECOND) answer < crates/vectors_inherit/stdin > crates/vectors_inherit/stdout
+
+# instructions for one reading and one computation, for the library and for the second program
+bench: lib
+	bash bench/run

@@ -3,6 +3,9 @@
 use std::ffi::c_uint;
 use std::ptr;
 
+use second::computing::Request;
+use second::random::Random;
+
 unsafe extern "C" {
     fn pt_identity(bytes: *const u8, length: usize) -> c_uint;
     fn pt_read(
@@ -10,6 +13,26 @@ unsafe extern "C" {
         list_length: usize,
         row: *mut u16,
         row_length: usize,
+        answer: *mut c_uint,
+    );
+    fn pt_compute(
+        rule: c_uint,
+        settings: c_uint,
+        mapping: *const c_uint,
+        parent: *const u8,
+        parent_length: usize,
+        creator: *const u8,
+        creator_length: usize,
+        default_list: *const u8,
+        default_length: usize,
+        types: *const u8,
+        types_length: usize,
+        owner: *const u8,
+        owner_length: usize,
+        group: *const u8,
+        group_length: usize,
+        out: *mut u8,
+        out_length: usize,
         answer: *mut c_uint,
     );
 }
@@ -22,6 +45,10 @@ pub enum WhenEmpty {
 }
 
 impl WhenEmpty {
+    pub fn draw(random: &mut Random) -> WhenEmpty {
+        *random.pick(&[WhenEmpty::Null, WhenEmpty::Pointer])
+    }
+
     fn pointer<T>(self, part: &[T]) -> *const T {
         if part.is_empty() && self == WhenEmpty::Null {
             ptr::null()
@@ -55,6 +82,35 @@ pub fn read(list: &[u8], row: &mut [u16], answer: &mut [u32; 8], when_empty: Whe
             list.len(),
             when_empty.pointer_mut(row),
             row_length,
+            answer.as_mut_ptr(),
+        );
+    }
+}
+
+/// As `read`; the result goes into the room.
+pub fn compute(request: &Request, room: &mut [u8], answer: &mut [u32; 8], when_empty: WhenEmpty) {
+    let room_length = room.len();
+    // SAFETY: the pointers cover their lengths, or are null where a length is
+    // 0; no two parts overlap, the mapping holds four numbers and the answer eight.
+    unsafe {
+        pt_compute(
+            request.rule,
+            request.settings,
+            request.mapping.as_ptr(),
+            when_empty.pointer(&request.parent),
+            request.parent.len(),
+            when_empty.pointer(&request.creator),
+            request.creator.len(),
+            when_empty.pointer(&request.default_list),
+            request.default_list.len(),
+            when_empty.pointer(&request.types),
+            request.types.len(),
+            when_empty.pointer(&request.owner),
+            request.owner.len(),
+            when_empty.pointer(&request.group),
+            request.group.len(),
+            when_empty.pointer_mut(room),
+            room_length,
             answer.as_mut_ptr(),
         );
     }

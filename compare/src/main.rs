@@ -1,14 +1,18 @@
 //! Compares the C library with the second program, layer by layer.
 
 mod capi;
+mod compute;
 mod list;
+mod mutate;
+mod repeat;
 mod report;
 
 use std::process::ExitCode;
 
 use report::Report;
 
-const USAGE: &str = "usage: compare list --cases N --seed S";
+const USAGE: &str = "usage: compare list|compute --cases N --seed S
+       compare repeat library|second read|compute TIMES";
 
 struct Run {
     layer: fn(usize, u64) -> Report,
@@ -19,6 +23,9 @@ struct Run {
 fn main() -> ExitCode {
     let arguments: Vec<String> = std::env::args().skip(1).collect();
     let words: Vec<&str> = arguments.iter().map(String::as_str).collect();
+    if let ["repeat", who, what, times] = words[..] {
+        return repeated(who, what, times);
+    }
     let Some(run) = parse(&words) else {
         eprintln!("{USAGE}");
         return ExitCode::FAILURE;
@@ -29,6 +36,17 @@ fn main() -> ExitCode {
         ExitCode::SUCCESS
     } else {
         ExitCode::FAILURE
+    }
+}
+
+fn repeated(who: &str, what: &str, times: &str) -> ExitCode {
+    match times
+        .parse()
+        .ok()
+        .and_then(|times| repeat::run(who, what, times))
+    {
+        Some(()) => ExitCode::SUCCESS,
+        None => ExitCode::FAILURE,
     }
 }
 
@@ -46,6 +64,7 @@ fn parse(words: &[&str]) -> Option<Run> {
 fn layer_by_name(name: &str) -> Option<fn(usize, u64) -> Report> {
     match name {
         "list" => Some(list::compare),
+        "compute" => Some(compute::compare),
         _ => None,
     }
 }

@@ -8,6 +8,7 @@ pub struct Report {
     layer: &'static str,
     cases: usize,
     answers: BTreeMap<(&'static str, u32), usize>,
+    branches: BTreeMap<&'static str, usize>,
     differences: usize,
     shown: Vec<String>,
 }
@@ -18,6 +19,7 @@ impl Report {
             layer,
             cases: 0,
             answers: BTreeMap::new(),
+            branches: BTreeMap::new(),
             differences: 0,
             shown: Vec::new(),
         }
@@ -36,6 +38,11 @@ impl Report {
         }
     }
 
+    /// Counts the branch that a case went by.
+    pub fn add_branch(&mut self, branch: &'static str) {
+        *self.branches.entry(branch).or_default() += 1;
+    }
+
     pub fn cases(&self) -> usize {
         self.cases
     }
@@ -48,6 +55,9 @@ impl Report {
         let mut text = String::new();
         for ((call, number), count) in &self.answers {
             text += &format!("{call} {number}: {count} cases\n");
+        }
+        for (branch, count) in &self.branches {
+            text += &format!("{branch}: {count} cases\n");
         }
         for difference in &self.shown {
             text += &format!("difference: {difference}\n");

@@ -40,6 +40,14 @@ impl Answer {
         }
     }
 
+    /// A refusal that concerns no list.
+    pub fn refused_as_a_whole(number: u32) -> Answer {
+        Answer {
+            number,
+            ..Answer::default()
+        }
+    }
+
     /// The seven numbers in the order of the answer's table.
     pub fn seven(&self) -> [u32; 7] {
         [

@@ -1,9 +1,12 @@
 //! The independent second program: reads and refuses access lists and
-//! identities by document 01. It shares nothing with the verified code.
+//! identities, and computes a new object's list, by document 01. It shares
+//! nothing with the verified code.
 #![forbid(unsafe_code)]
 
+pub mod ace;
 pub mod answer;
 pub mod cases;
+pub mod computing;
 pub mod examples;
 pub mod hex;
 pub mod identity;

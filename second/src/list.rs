@@ -5,8 +5,8 @@ use crate::refusal::{Fault, Refusal};
 
 pub const HEADER_LENGTH: usize = 8;
 const KNOWN_FLAGS: u8 = 0x1F;
-const HAS_OBJECT_TYPE: u32 = 1;
-const HAS_INHERITED_OBJECT_TYPE: u32 = 2;
+pub const HAS_OBJECT_TYPE: u32 = 1;
+pub const HAS_INHERITED_OBJECT_TYPE: u32 = 2;
 
 pub type Guid = [u8; 16];
 
@@ -87,6 +87,15 @@ impl EntryType {
             (5, Revision::WithObjects) => Some(EntryType::ObjectAllow),
             (6, Revision::WithObjects) => Some(EntryType::ObjectDeny),
             _ => None,
+        }
+    }
+
+    pub fn byte(self) -> u8 {
+        match self {
+            EntryType::Allow => 0,
+            EntryType::Deny => 1,
+            EntryType::ObjectAllow => 5,
+            EntryType::ObjectDeny => 6,
         }
     }
 

@@ -10,6 +10,7 @@ use second::tally::Tally;
 
 const USAGE: &str = "usage:
   second cases list EXAMPLES    write the stored cases for reading
+  second cases inherit          write the stored cases for the computation
   second answer                 answer the case file on standard input
   second check-examples FILE    compare with the answers written by hand
   second tally                  count the answers to the case file on standard input";
@@ -18,7 +19,10 @@ fn main() -> ExitCode {
     let arguments: Vec<String> = std::env::args().skip(1).collect();
     let words: Vec<&str> = arguments.iter().map(String::as_str).collect();
     let outcome = match words[..] {
-        ["cases", "list", path] => write_list_cases(path),
+        ["cases", "list", path] => {
+            read_examples(path).and_then(|examples| write_cases(&cases::list::all(&examples)))
+        }
+        ["cases", "inherit"] => write_cases(&cases::inherit::all()),
         ["answer"] => answer(),
         ["check-examples", path] => check_examples(path),
         ["tally"] => tally(),
@@ -33,12 +37,8 @@ fn main() -> ExitCode {
     }
 }
 
-fn write_list_cases(path: &str) -> Result<(), String> {
-    let mut file = Vec::new();
-    for case in cases::list::all(&read_examples(path)?) {
-        case.encode(&mut file);
-    }
-    write_out(&file)
+fn write_cases(cases: &[Case]) -> Result<(), String> {
+    write_out(&records::encode_all(cases))
 }
 
 fn answer() -> Result<(), String> {

@@ -1,16 +1,22 @@
 //! The case file's records and the answers to them.
 
+mod computation;
+
+use crate::computing::Request;
+use crate::hex;
 use crate::identity::{self, Identity, LONGEST};
 use crate::reading;
-use crate::{answer::Answer, hex};
+pub use computation::{LONGEST_OTHER, LONGEST_ROOM, fresh_room};
 
 const KIND_READ: u8 = 1;
 const KIND_IDENTITY: u8 = 2;
+const KIND_COMPUTE: u8 = 3;
 
 #[derive(Clone, Debug, PartialEq, Eq, Hash)]
 pub enum Case {
     Read { row_length: u16, list: Vec<u8> },
     Identity(Vec<u8>),
+    Compute { request: Request, room: usize },
 }
 
 impl Case {
@@ -23,12 +29,21 @@ impl Case {
         let (kind, row_length, payload) = match self {
             Case::Read { row_length, list } => (KIND_READ, *row_length, list),
             Case::Identity(bytes) => (KIND_IDENTITY, 0, bytes),
+            Case::Compute { request, room } => return computation::encode(request, *room, out),
         };
         out.extend_from_slice(&[kind, 0]);
         out.extend_from_slice(&row_length.to_le_bytes());
         out.extend_from_slice(&(payload.len() as u32).to_le_bytes());
         out.extend_from_slice(payload);
     }
+}
+
+pub fn encode_all(cases: &[Case]) -> Vec<u8> {
+    let mut file = Vec::new();
+    for case in cases {
+        case.encode(&mut file);
+    }
+    file
 }
 
 /// Takes all records of a case file, or says what is wrong with one.
@@ -45,6 +60,9 @@ pub fn decode_all(mut file: &[u8]) -> Result<Vec<Case>, String> {
 }
 
 fn decode(file: &[u8]) -> Result<(Case, &[u8]), &'static str> {
+    if file.first() == Some(&KIND_COMPUTE) {
+        return computation::decode(file);
+    }
     let (head, rest) = file.split_first_chunk::<8>().ok_or("cut head")?;
     let &[kind, zero, row_low, row_high, ref length @ ..] = head;
     let length = u32::from_le_bytes(*length) as usize;
@@ -71,6 +89,7 @@ pub fn answer_line(case: &Case) -> String {
     let mut line = match case {
         Case::Read { row_length, list } => read_line(*row_length, list),
         Case::Identity(bytes) => identity_line(bytes),
+        Case::Compute { request, room } => computation::line(request, *room),
     };
     line.push('\n');
     line
@@ -78,12 +97,13 @@ pub fn answer_line(case: &Case) -> String {
 
 fn read_line(row_length: u16, list: &[u8]) -> String {
     let mut row = fresh_row(row_length);
-    let answer: Answer = reading::read(list, &mut row);
-    let numbers = answer
-        .seven()
-        .into_iter()
-        .chain(row.iter().map(|&o| o.into()));
-    let words: Vec<String> = numbers.map(|number| number.to_string()).collect();
+    let answer = reading::read(list, &mut row);
+    let offsets = row.iter().map(|&offset| offset.into());
+    spaced(answer.seven().into_iter().chain(offsets))
+}
+
+fn spaced(numbers: impl IntoIterator<Item = u32>) -> String {
+    let words: Vec<String> = numbers.into_iter().map(|n| n.to_string()).collect();
     words.join(" ")
 }
 
@@ -107,10 +127,7 @@ mod tests {
             Case::Identity(vec![]),
             Case::read(0, vec![]),
         ];
-        let mut file = Vec::new();
-        for case in &cases {
-            case.encode(&mut file);
-        }
+        let file = encode_all(&cases);
         assert_eq!(file[..11], [1, 0, 3, 0, 3, 0, 0, 0, 1, 2, 3]);
         assert_eq!(decode_all(&file).unwrap(), cases);
         assert!(decode_all(&file[..10]).is_err());

@@ -2,9 +2,10 @@
 
 use std::collections::BTreeMap;
 
+use crate::computing::{self, Request};
 use crate::identity;
 use crate::reading;
-use crate::records::{Case, fresh_row};
+use crate::records::{Case, fresh_room, fresh_row};
 
 #[derive(Default)]
 pub struct Tally {
@@ -48,5 +49,13 @@ fn label(case: &Case) -> String {
                 }
             }
         }
+        Case::Compute { request, room } => compute_label(request, *room),
+    }
+}
+
+fn compute_label(request: &Request, room: usize) -> String {
+    match computing::try_compute(request, &mut fresh_room(room)) {
+        Ok(done) => format!("compute 0  {}", done.branch.name()),
+        Err(refused) => format!("compute {}  {}", refused.number(), refused.name()),
     }
 }

@@ -1,9 +1,9 @@
 //! Fresh random cases.
 
-use super::mutate::{TELLING, mutate_identity, mutate_list};
+use crate::mutate::{TELLING, mutate_identity, mutate_list};
 use second::cases::build::{
-    EntryPlan, MOST_NUMBERS, creator_sid, fix_size, list_of_plans, random_list, random_sid,
-    set_count, sid,
+    EntryPlan, MOST_NUMBERS, creator_sid, fix_size, list_of_plans, of_creator_authority,
+    random_list, random_sid, set_count,
 };
 use second::random::Random;
 
@@ -153,12 +153,4 @@ fn identity(random: &mut Random) -> Vec<u8> {
             random.bytes(length)
         }
     }
-}
-
-/// S-1-3 with up to three small numbers.
-fn of_creator_authority(random: &mut Random) -> Vec<u8> {
-    let numbers: Vec<u32> = (0..random.below(4))
-        .map(|_| random.below(3) as u32)
-        .collect();
-    sid([0, 0, 0, 0, 0, 3], &numbers)
 }

@@ -1,7 +1,6 @@
 //! Reading lists and identities.
 
 mod generate;
-mod mutate;
 
 use crate::capi::{self, WhenEmpty};
 use crate::report::Report;
@@ -26,13 +25,9 @@ pub fn compare(cases: usize, seed: u64) -> Report {
     report
 }
 
-fn when_empty(random: &mut Random) -> WhenEmpty {
-    *random.pick(&[WhenEmpty::Null, WhenEmpty::Pointer])
-}
-
 fn compare_identity(random: &mut Random, report: &mut Report, bytes: &[u8]) {
     let lent = bytes.to_vec();
-    let theirs = capi::identity(&lent, when_empty(random));
+    let theirs = capi::identity(&lent, WhenEmpty::draw(random));
     let ours = identity::classify(bytes);
     let difference = if theirs != ours {
         Some(format!("{theirs}, second {ours}"))
@@ -55,7 +50,7 @@ fn compare_read(random: &mut Random, report: &mut Report, list: &[u8], row_lengt
     let lent = list.to_vec();
     let mut their_row = before;
     let mut theirs = [0; 8].map(|_: u32| random.word());
-    let empty = when_empty(random);
+    let empty = WhenEmpty::draw(random);
     capi::read(&lent, &mut their_row[inside], &mut theirs, empty);
 
     let difference = if theirs != ours {

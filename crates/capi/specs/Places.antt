@@ -1,8 +1,29 @@
--- The eight 32-bit numbers in which a call answers.
+-- The eight 32-bit numbers in which a call answers, and arguments that are passed as numbers.
 use Prim.Native.Nat.{ℕ}
 use mathlib.Core.List.{List, [], _∷_}
+use lib.ListN.{getD}
 use Rattle.list.specs.Answer.{Values}
+use Rattle.inherit.specs.Given.{has}
+use Rattle.inherit.specs.declared.Settings.{Settings}
+use Rattle.inherit.specs.declared.Mapping.{Mapping}
 
 -- document 01's values in their places; the last place is 0
 abbrev pub placesOf : Values → List ℕ
 placesOf v = v .number ∷ v .list ∷ v .offset ∷ v .length ∷ v .present ∷ v .count ∷ v .control ∷ 0 ∷ []
+
+-- the settings of a computation: 1 parent present, 2 creator present, 4 default present, 8 container, 16 auto inherit, 32 default descriptor, 64 protected
+abbrev pub settingsOf : ℕ → Settings
+settingsOf bits =
+    record {
+      parent = has 1 bits;
+      creator = has 2 bits;
+      default = has 4 bits;
+      container = has 8 bits;
+      auto = has 16 bits;
+      defaulted = has 32 bits;
+      protect = has 64 bits;
+    }
+
+-- a mapping's four masks: read, write, execute, all
+abbrev pub mappingOf : List ℕ → Mapping
+mappingOf m = record { read = getD m 0 0; write = getD m 1 0; execute = getD m 2 0; all = getD m 3 0 }

@@ -15,6 +15,10 @@ use Rattle.list.proofs.identities.guid_at.Kinds as guid-at
 use Rattle.list.proofs.identities.guid_at.Reads as guid-at-reads
 use Rattle.list.proofs.identities.same_guid.Kinds as same-guid
 use Rattle.list.proofs.identities.same_guid.Reads as same-guid-reads
+use Rattle.list.proofs.numbers.put.Kinds as put
+use Rattle.list.proofs.numbers.put.Reads as put-reads
+use Rattle.list.proofs.entries.is_object.Kinds as is-object
+use Rattle.list.proofs.entries.is_object.Reads as is-object-reads
 use Rattle.list.proofs.entries.entry_of.Kinds as entry-of
 use Rattle.list.proofs.entries.entry_of.Reads as entry-of-reads
 use Rattle.list.proofs.lists.check.Kinds as check
@@ -39,6 +43,13 @@ guid-at-determined κs a x y s t p q = p ∙ sym q
 
 pub same-guid-determined : OneResult 0 same-guid.ps same-guid.r same-guid-reads.Learnt
 same-guid-determined κs a x y s t p q = p ∙ sym q
+
+-- the buffer afterwards
+pub put-determined : Determines 2 put.ps put.r (λ κs x y s t. now (s .0) ≡ now (t .0)) put-reads.Learnt
+put-determined κs a x y s t p q = p ∙ sym q
+
+pub is-object-determined : OneResult 0 is-object.ps is-object.r is-object-reads.Learnt
+is-object-determined κs a x y s t p q = p ∙ sym q
 
 pub entry-of-determined : OneResult 1 entry-of.ps entry-of.r entry-of-reads.Learnt
 entry-of-determined κs a x y s t p q = p ∙ sym q

@@ -7,6 +7,8 @@ pub mod Walks
 pub mod Told
 pub mod Pieces
 pub mod Parts
+pub mod Remade
+pub mod Revisions
 pub mod Rows
 pub mod Determinacy
 pub mod Answers

@@ -2,14 +2,14 @@
 use mathlib.Core.Path.{_≡_, refl, sym, ap, _∙_}
 use mathlib.Core.Bool.{true}
 use mathlib.Core.List.{List, [], _∷_, _++_, append-assoc, append-nil, flatten}
-use Prim.Native.Nat.{ℕ, zero, suc, _+_, _*_, _≤_, _<_}
+use Prim.Native.Nat.{ℕ, zero, suc, _+_, _*_, _/_, _%_, _≤_, _<_}
 use native.Mathlib.Nat.{le-of-suc-le-suc, not-suc-le-zero}
 use native.Mathlib.Omega.{arith}
 use lib.ListN.{length, take, drop, getD, length-append, length-drop, take-append-drop}
 use lib.Seq.{drop-cons, drop-drop, drop-at, take-at, drop-length}
 use Rattle.list.specs.Bytes.{le, spell}
 use Rattle.list.specs.Entry.{Family, entryOf, sizeOf, kindOf, fieldsOf}
-use Rattle.list.specs.List.{cut, endOf, entriesOf, offsets, render, revOk, revOf, countOf, checkOf}
+use Rattle.list.specs.List.{cut, endOf, entriesOf, offsets, headBytes, render, revOk, revOf, countOf, checkOf}
 use Rattle.list.specs.Good.{Sound, Whole, Passes, Header, Listed, Every}
 use Rattle.list.specs.declared.entries.Checked.the-variants.{Good}
 use Rattle.list.specs.declared.lists.Reading.the-variants.{Done}
@@ -102,6 +102,15 @@ laid f s n r =
       fills = b ∙ rw (r .ends, drop-length, append-nil);
     }
 
+-- the entries are those that are cut off, and none of none
+pub cut-none : (t : List ℕ) → cut 0 t ≡ []
+unfolding cut
+cut-none t = refl
+
+pub entries-are : (f : Family) (s : List ℕ) (n : ℕ) → Listed f s n → entriesOf s ≡ cut n (drop 8 s)
+unfolding entriesOf
+entries-are f s n r = rw (r .count)
+
 -- the k-th entry e, which lies at o: its bytes, and its fields as the check of an entry gives them
 pub record Kth (f : Family) (s : List ℕ) (o : ℕ) (e : List ℕ) : Type 0 where
   pub whole : Whole f (revOf s) e
@@ -129,7 +138,7 @@ kth f s n k r p =
     }
 
 -- entries are 8 bytes long at the least, so their number fits where their bytes do
-fewer : (f : Family) (rev : ℕ) (es : List (List ℕ)) → Every (Whole f rev) es → 8 * length es ≤ length (flatten es)
+pub fewer : (f : Family) (rev : ℕ) (es : List (List ℕ)) → Every (Whole f rev) es → 8 * length es ≤ length (flatten es)
 unfolding flatten
 fewer f rev [] ws = omega arith
 fewer f rev (e ∷ es) ws =
@@ -141,8 +150,21 @@ pub record Rendered (f : Family) (rev : ℕ) (es : List (List ℕ)) : Type 0 whe
   pub done : checkOf f (render rev es) ≡ Done (8 + length (flatten es)) (length es)
   pub entries : entriesOf (render rev es) ≡ es
 
+pub length-head : (rev size count : ℕ) → length (headBytes rev size count) ≡ 8
+unfolding headBytes spell
+length-head rev size count = refl
+
+pub head-is : (rev size count : ℕ)
+    → headBytes rev size count ≡ rev ∷ 0 ∷ size % 256 ∷ size / 256 % 256 ∷ count % 256 ∷ count / 256 % 256 ∷ 0 ∷ 0 ∷ []
+unfolding headBytes spell
+head-is rev size count = refl
+
+pub render-is : (rev : ℕ) (es : List (List ℕ)) → render rev es ≡ headBytes rev (8 + length (flatten es)) (length es) ++ flatten es
+unfolding render
+render-is rev es = refl
+
 pub length-render : (rev : ℕ) (es : List (List ℕ)) → length (render rev es) ≡ 8 + length (flatten es)
-unfolding render spell
+unfolding render headBytes spell
 length-render rev es = omega arith
 
 -- a 16-bit field in front of anything
@@ -150,12 +172,12 @@ field : (n : ℕ) (v : List ℕ) → n < 65536 → le 2 (spell 2 n ++ v) ≡ n
 field n v h = le-append 2 (spell 2 n) v (omega (arith, length-spell 2 n)) ∙ le-spell 2 n h
 
 pub count-render : (rev : ℕ) (es : List (List ℕ)) → length es < 65536 → countOf (render rev es) ≡ length es
-unfolding render spell
+unfolding render headBytes spell
 count-render rev es h = field (length es) ((0 ∷ 0 ∷ []) ++ flatten es) h
 
 module _ (f : Family) (rev : ℕ) (es : List (List ℕ)) (known : revOk rev ≡ true) (ws : Every (Whole f rev) es) (fits : 8 + length (flatten es) < 65536) where
   header-render : Header (render rev es)
-  unfolding render spell le
+  unfolding render headBytes spell le
   header-render =
       record {
         long = omega arith;
@@ -172,7 +194,7 @@ module _ (f : Family) (rev : ℕ) (es : List (List ℕ)) (known : revOk rev ≡ 
   bare = append-nil (flatten es)
 
   listed-render : Listed f (render rev es) (length es)
-  unfolding render spell
+  unfolding render headBytes spell
   listed-render =
       record {
         head = header-render;
@@ -182,7 +204,7 @@ module _ (f : Family) (rev : ℕ) (es : List (List ℕ)) (known : revOk rev ≡ 
       }
 
   pub rendered : Rendered f rev es
-  unfolding render spell entriesOf
+  unfolding render headBytes spell entriesOf
   rendered =
       record {
         listed = listed-render;

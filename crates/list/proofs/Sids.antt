@@ -6,13 +6,15 @@ use Prim.Native.Nat.{ℕ, zero, suc, _+_, _*_, _≤_, _<_}
 use native.Mathlib.Nat.{le-of-suc-le-suc}
 use native.Mathlib.Numerals.{add-one}
 use native.Mathlib.Omega.{arith}
-use lib.ListN.{length, take, drop, getD, length-drop, take-append-drop, List·getD-append}
-use lib.Seq.{take-add, drop-drop, drop-cons, length-take-le}
+use lib.ListN.{length, take, drop, replicate, getD, length-drop, take-append-drop, List·getD-append}
+use lib.Seq.{take-add, take-at, drop-drop, drop-cons, length-take-le}
 use lib.Dec.{eqb, leb, ltb}
 use borrow.Author.Tests.{eq-eqb, ne-eqb, lt-ltb, eqb-true, leb-true, ltb-true}
 use Rattle.list.specs.Bytes.{Bytes, le, sameBytes}
-use Rattle.list.specs.Identity.{sidLen, isSid, creator, placeholderOf, identityOf}
+use Rattle.list.specs.Identity.{sidLen, isSid, creator, placeholderOf, identityOf, bytesOf, madeOf}
+use Rattle.list.specs.declared.identities.Made.{Made}
 use Rattle.list.proofs.Tests.{both-true, false-or, off}
+use Rattle.list.proofs.Writes.{length-front}
 use Rattle.list.proofs.Little.{le-same, le-drop-append, bytes-drop}
 
 -- a test that says whether two lists are the same
@@ -121,3 +123,32 @@ long-sid s h =
 pub not-twelve : (s : List ℕ) → (length s ≡ 12 → ⊥) → placeholderOf s ≡ 0
 unfolding placeholderOf
 not-twelve s f = rw (same-length s (creator 0) f, same-length s (creator 1) f)
+
+-- an ordinary identity: exactly one SID, and no placeholder
+pub identity-zero : (s : List ℕ) → identityOf s ≡ 0 → (isSid s ≡ true) × (placeholderOf s ≡ 0)
+unfolding identityOf
+identity-zero s h = by (isSid s) refl h
+  where
+    by : (b : Bool) → isSid s ≡ b → cond b (placeholderOf s) 6 ≡ 0 → (isSid s ≡ true) × (placeholderOf s ≡ 0)
+    by true e z = (e, z)
+    by false e z = absurd (omega arith)
+
+-- an identity that was made holds the bytes it was made of
+pub record Holds (s : List ℕ) (m : Made) : Type 0 where
+  pub whole : bytesOf (m .sid) ≡ s
+  pub long : m .sid .len ≡ length s
+  pub most : m .sid .len ≤ 68
+  pub wide : length (m .sid .bytes) ≡ 68
+
+pub made-holds : (s : List ℕ) → isSid s ≡ true → Holds s (madeOf s)
+unfolding madeOf
+made-holds s h =
+    let o = one-sid s h in
+    let m : length s ≤ 68 = omega (arith, o .exact, sid-most s) in
+    rw h
+    (record {
+      whole = take-at s (drop (length s) (replicate 68 0)) (length s) refl;
+      long = refl;
+      most = m;
+      wide = length-front s (replicate 68 0) m;
+    })

@@ -31,6 +31,10 @@ sameBytes (a ∷ r) (b ∷ bs) = eqb a b && sameBytes r bs
 abbrev pub front : List ℕ → List ℕ → List ℕ
 front w d = w ++ drop (length w) d
 
+-- d after as much of s as there is room for was written on its front
+unfoldable pub putOn : List ℕ → List ℕ → List ℕ
+putOn s d = front (take (length d) s) d
+
 -- the sixteen bytes of a GUID at `at`; zeros where s does not reach so far
 unfoldable pub guidAt : List ℕ → ℕ → List ℕ
 guidAt s at = cond (leb (at + 16) (length s)) (take 16 (drop at s)) (replicate 16 0)

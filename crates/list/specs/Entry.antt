@@ -1,10 +1,10 @@
 -- One entry of a list, read off the bytes t that it begins; what follows it in t is not looked at.
-use Prim.Native.Nat.{ℕ, _+_, _*_, _/_, _%_}
-use mathlib.Core.List.{List}
+use Prim.Native.Nat.{ℕ, _+_, _-_, _*_, _/_, _%_}
+use mathlib.Core.List.{List, [], _∷_, _++_}
 use mathlib.Core.Bool.{Bool, true, false, cond, _&&_, _||_}
-use lib.ListN.{length, getD, drop}
+use lib.ListN.{length, getD, take, drop}
 use lib.Dec.{eqb, leb, ltb}
-use Rattle.list.specs.Bytes.{le}
+use Rattle.list.specs.Bytes.{le, spell}
 use Rattle.list.specs.Identity.{sidLen}
 use Rattle.list.specs.declared.entries.Entry.{Entry}
 use Rattle.list.specs.declared.entries.Checked.{Checked}
@@ -71,6 +71,22 @@ sidLenOf t = sidLen (drop (sidAt t) t)
 
 abbrev pub sidEnd : List ℕ → ℕ
 sidEnd t = sidAt t + sidLenOf t
+
+-- what stands between the mask and the SID (word and GUIDs), the SID, and what follows it inside the entry
+abbrev pub middleOf : List ℕ → List ℕ
+middleOf t = take (sidAt t - 8) (drop 8 t)
+
+abbrev pub sidOf : List ℕ → List ℕ
+sidOf t = take (sidLenOf t) (drop (sidAt t) t)
+
+abbrev pub tailOf : List ℕ → List ℕ
+tailOf t = take (sizeOf t - sidEnd t) (drop (sidEnd t) t)
+
+-- the bytes of an entry made of its parts: type, flags, the size, which is exactly its parts, mask, and those three
+unfoldable pub entryBytes : ℕ → ℕ → ℕ → List ℕ → List ℕ → List ℕ → List ℕ
+entryBytes kind flags mask middle sid tail =
+    (kind ∷ flags ∷ [])
+    ++ (spell 2 (8 + (length middle + (length sid + length tail))) ++ (spell 4 mask ++ (middle ++ (sid ++ tail))))
 
 -- what may follow the SID in an entry of type k: nothing
 unfoldable pub tailOk : ℕ → ℕ → ℕ → Bool

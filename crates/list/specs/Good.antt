@@ -2,10 +2,10 @@
 use mathlib.Core.Path.{_≡_}
 use mathlib.Core.Bool.{true}
 use mathlib.Core.List.{List, [], _∷_}
-use Prim.Native.Nat.{ℕ, zero, suc, _+_, _≤_, _<_}
+use Prim.Native.Nat.{ℕ, zero, suc, _+_, _-_, _≤_, _<_}
 use lib.ListN.{length, drop, getD}
 use Rattle.list.specs.Bytes.{le}
-use Rattle.list.specs.Entry.{Family, kindOk, flagsOk, tailOk, kindOf, sizeOf, flagsOf, headOf, wordOf, sidAt, sidLenOf, sidEnd}
+use Rattle.list.specs.Entry.{Family, kindOk, flagsOk, tailOk, kindOf, sizeOf, flagsOf, headOf, wordOf, sidAt, sidLenOf, sidEnd, middleOf, sidOf, tailOf}
 use Rattle.list.specs.List.{revOk, revOf, countOf, endOf}
 
 -- t passes (a) to (c)
@@ -31,6 +31,16 @@ pub record Sound (f : Family) (rev : ℕ) (t : List ℕ) : Type 0 where
 pub record Whole (f : Family) (rev : ℕ) (e : List ℕ) : Type 0 where
   pub sound : Sound f rev e
   pub whole : sizeOf e ≡ length e
+
+-- where the parts of a good entry lie in t, and how long they are
+pub record Bounds (t : List ℕ) : Type 0 where
+  pub eight : 8 ≤ sidAt t
+  pub high : sidAt t ≤ 44
+  pub sid : sidEnd t ≤ sizeOf t
+  pub inside : sizeOf t ≤ length t
+  pub middle : length (middleOf t) ≡ sidAt t - 8
+  pub sid-length : length (sidOf t) ≡ sidLenOf t
+  pub tail-length : length (tailOf t) ≡ sizeOf t - sidEnd t
 
 -- t begins with n good entries
 abbrev pub Passes : Family → ℕ → ℕ → List ℕ → Type 0

@@ -49,10 +49,13 @@ unfoldable pub offsets : ℕ → ℕ → List ℕ → List ℕ
 offsets zero at t = []
 offsets (suc n) at t = at ∷ offsets n (at + sizeOf t) (drop (sizeOf t) t)
 
+-- a header: revision, a zero byte, size, count, two zero bytes
+unfoldable pub headBytes : ℕ → ℕ → ℕ → List ℕ
+headBytes rev size count = (rev ∷ 0 ∷ []) ++ (spell 2 size ++ (spell 2 count ++ (0 ∷ 0 ∷ [])))
+
 -- the bytes of a list of revision rev that holds the entries es
 unfoldable pub render : ℕ → List (List ℕ) → List ℕ
-render rev es =
-    (rev ∷ 0 ∷ []) ++ (spell 2 (8 + length (flatten es)) ++ (spell 2 (length es) ++ ((0 ∷ 0 ∷ []) ++ flatten es)))
+render rev es = headBytes rev (8 + length (flatten es)) (length es) ++ flatten es
 
 -- a bad entry at `at` is the answer, a good one leaves it to what follows
 unfoldable pub onGood : Checked → ℕ → Reading → Reading

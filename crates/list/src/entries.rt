@@ -2,7 +2,7 @@
 ghost use mathlib.Core.Path.{_≡_};
 ghost use Prim.Native.Nat.{ℕ, _+_, _≤_};
 ghost use lib.ListN.{length};
-ghost use Rattle.list.specs.Entry.{access, kindOk, headOf, sizeOf, wordAfter, entryOf};
+ghost use Rattle.list.specs.Entry.{access, kindOk, objectKind, headOf, sizeOf, wordAfter, entryOf};
 ghost use Rattle.list.specs.Good.{Begun};
 use crate::identities::sid_at;
 use crate::numbers::half_at;
@@ -25,6 +25,16 @@ pub enum Checked {
     Bad(u8),
 }
 
+// Whether `kind` is an object type.
+pub fn is_object(kind: u8) -> bool
+    ensures { λ r. ⌜ r ≡ objectKind kind ⌝ }
+{
+    if kind == 5 {
+        return true;
+    }
+    kind == 6
+}
+
 // Whether a list of revision `rev` may hold an entry of type `kind`.
 fn kind_ok(kind: u8, rev: u8) -> bool
     ensures { λ r. ⌜ r ≡ kindOk access kind rev ⌝ }
@@ -35,23 +45,14 @@ fn kind_ok(kind: u8, rev: u8) -> bool
     if rev != 4 {
         return false;
     }
-    if kind == 5 {
-        return true;
-    }
-    kind == 6
+    is_object(kind)
 }
 
 // How many bytes of an entry of type `kind` stand before its GUIDs.
 fn head_len(kind: u8) -> usize
     ensures { λ r. ⌜ r ≡ headOf kind ⌝ }
 {
-    if kind == 5 {
-        return 12;
-    }
-    if kind == 6 {
-        return 12;
-    }
-    8
+    if is_object(kind) { 12 } else { 8 }
 }
 
 // The object word behind a head of 12 bytes, 0 where the head is shorter.

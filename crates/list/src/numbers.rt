@@ -1,8 +1,8 @@
 // Little-endian numbers, and bytes put on the front of a buffer.
 ghost use mathlib.Core.Path.{_≡_};
-ghost use Prim.Native.Nat.{_+_, _≤_};
+ghost use Prim.Native.Nat.{_+_, _≤_, min};
 ghost use lib.ListN.{length, drop};
-ghost use Rattle.list.specs.Bytes.{le, front};
+ghost use Rattle.list.specs.Bytes.{le, putOn};
 
 // The 16-bit number at `at`.
 pub(crate) fn half_at(s: &[u8], at: usize) -> u16
@@ -20,13 +20,19 @@ pub(crate) fn word_at(s: &[u8], at: usize) -> u32
     (half_at(s, at) as u32) + 65536 * (half_at(s, at + 2) as u32)
 }
 
-// All of `from` on the front of `to`.
-pub(crate) fn put(to: &mut [u8], from: &[u8])
-    requires { ⌜ length (now from) ≤ length (now to) ⌝ }
-    ensures { λ _. ⌜ now (to .exit) ≡ front (now (from .entry)) (now (to .entry)) ⌝ }
+fn least(a: usize, b: usize) -> usize
+    ensures { λ r. ⌜ r ≡ min a b ⌝ }
 {
+    if a < b { a } else { b }
+}
+
+// As much of `from` as there is room for, on the front of `to`.
+pub fn put(to: &mut [u8], from: &[u8])
+    ensures { λ _. ⌜ now (to .exit) ≡ putOn (now (from .entry)) (now (to .entry)) ⌝ }
+{
+    let n = least(from.len(), to.len());
     let mut i = 0;
-    while i < from.len() {
+    while i < n {
         to[i] = from[i];
         i += 1;
     }

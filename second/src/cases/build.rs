@@ -32,13 +32,24 @@ pub fn random_sid(random: &mut Random, count: usize) -> Vec<u8> {
     bytes
 }
 
-/// No byte of these looks like a SID's start.
-fn counting_guids() -> [Guid; 2] {
-    [0x40, 0x50].map(|first| std::array::from_fn(|place| first + place as u8))
+/// S-1-3 with up to three small numbers; placeholders are among them.
+pub fn of_creator_authority(random: &mut Random) -> Vec<u8> {
+    let numbers: Vec<u32> = (0..random.below(4))
+        .map(|_| random.below(3) as u32)
+        .collect();
+    sid([0, 0, 0, 0, 0, 3], &numbers)
 }
 
+pub fn counting_guid(first: u8) -> Guid {
+    std::array::from_fn(|place| first + place as u8)
+}
+
+/// ObjectType and InheritedObjectType of entries unless others are given; no
+/// byte of them looks like a SID's start.
+pub const COUNTING_FROM: [u8; 2] = [0x40, 0x50];
+
 /// Some begin as a SID does.
-fn random_guid(random: &mut Random) -> Guid {
+pub fn random_guid(random: &mut Random) -> Guid {
     let mut guid: Guid = std::array::from_fn(|_| random.byte());
     if random.chance(1, 4) {
         guid[..2].copy_from_slice(&[1, random.below(4) as u8]);
@@ -66,7 +77,7 @@ impl EntryPlan {
             flags,
             mask: 0x001F_01FF,
             word: 0,
-            guids: counting_guids(),
+            guids: COUNTING_FROM.map(counting_guid),
             sid,
         }
     }
@@ -140,6 +151,12 @@ pub fn list_of(revision: u8, entries: &[Vec<u8>]) -> Vec<u8> {
 pub fn list_of_plans(revision: u8, plans: &[EntryPlan]) -> Vec<u8> {
     let entries: Vec<Vec<u8>> = plans.iter().map(EntryPlan::bytes).collect();
     list_of(revision, &entries)
+}
+
+/// The list of entries that are to be good, of the revision they ask for.
+pub fn good_list(plans: &[EntryPlan]) -> Vec<u8> {
+    let with_objects = plans.iter().any(EntryPlan::is_object);
+    list_of_plans(if with_objects { 4 } else { 2 }, plans)
 }
 
 pub fn random_list(random: &mut Random, revision: u8, count: usize) -> Vec<u8> {

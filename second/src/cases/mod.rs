@@ -1,4 +1,18 @@
 //! Making the stored cases, one module for each layer.
 
 pub mod build;
+pub mod inherit;
 pub mod list;
+pub mod spoil;
+
+use std::collections::HashSet;
+
+use crate::records::Case;
+
+/// The first cases as they are, then those of the others that are new.
+fn joined(first: Vec<Case>, others: Vec<Case>) -> Vec<Case> {
+    let mut all = first;
+    let mut seen: HashSet<Case> = all.iter().cloned().collect();
+    all.extend(others.into_iter().filter(|case| seen.insert(case.clone())));
+    all
+}

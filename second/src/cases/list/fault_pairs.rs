@@ -1,9 +1,9 @@
 //! Several faults at once: the order of the tests decides.
 
-use super::spoil::{Spoil, one_of_each, spoilt};
 use crate::cases::build::{
     EntryPlan, fix_size, list_of, list_of_plans, nt_sid, set_count, set_size,
 };
+use crate::cases::spoil::{Spoil, one_of_each, spoilt};
 use crate::records::Case;
 
 const COUNT: usize = 3;

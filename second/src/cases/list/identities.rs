@@ -25,7 +25,7 @@ fn placeholders() -> [Vec<u8>; 2] {
     [creator_sid(0), creator_sid(1)]
 }
 
-fn near_placeholders() -> Vec<Vec<u8>> {
+pub fn near_placeholders() -> Vec<Vec<u8>> {
     let creator = [0, 0, 0, 0, 0, 3];
     let mut all = vec![
         sid(creator, &[]),
@@ -68,7 +68,7 @@ fn near_placeholders() -> Vec<Vec<u8>> {
     all
 }
 
-fn wrong_first_bytes(random: &mut Random) -> Vec<Vec<u8>> {
+pub fn wrong_first_bytes(random: &mut Random) -> Vec<Vec<u8>> {
     let mut all = Vec::new();
     for numbers in [0, 1, 5, 15] {
         for first in [0, 2, 3, 4, 0x10, 0x7F, 0x81, 0xFF] {
@@ -81,7 +81,7 @@ fn wrong_first_bytes(random: &mut Random) -> Vec<Vec<u8>> {
 }
 
 /// n above 15, with the bytes it asks for and with fewer.
-fn too_many_numbers(random: &mut Random) -> Vec<Vec<u8>> {
+pub fn too_many_numbers(random: &mut Random) -> Vec<Vec<u8>> {
     let mut all = Vec::new();
     for n in [16, 17, 18, 31, 32, 64, 127, 128, 241, 255] {
         let asked = 8 + 4 * usize::from(n);
@@ -94,7 +94,7 @@ fn too_many_numbers(random: &mut Random) -> Vec<Vec<u8>> {
     all
 }
 
-fn wrong_lengths(random: &mut Random) -> Vec<Vec<u8>> {
+pub fn wrong_lengths(random: &mut Random) -> Vec<Vec<u8>> {
     let mut all = vec![Vec::new()];
     for numbers in 0..=MOST_NUMBERS {
         let good = random_sid(random, numbers);

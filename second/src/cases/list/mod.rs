@@ -3,15 +3,13 @@
 mod boundaries;
 mod byte_changes;
 mod fault_pairs;
-mod identities;
+pub(super) mod identities;
 mod noise;
 mod rows;
 mod single_faults;
-mod spoil;
 mod valid;
 
-use std::collections::HashSet;
-
+use super::joined;
 use crate::examples::Example;
 use crate::random::Random;
 use crate::records::Case;
@@ -31,10 +29,7 @@ pub fn all(examples: &[Example]) -> Vec<Case> {
     made.extend(rows::cases(&mut random));
     made.extend(identities::cases(&mut random));
 
-    let mut all: Vec<Case> = examples.iter().map(Example::case).collect();
-    let mut seen: HashSet<Case> = all.iter().cloned().collect();
-    all.extend(made.into_iter().filter(|case| seen.insert(case.clone())));
-    all
+    joined(examples.iter().map(Example::case).collect(), made)
 }
 
 /// Rows at least as long as the count, some with elements past it.
@@ -45,6 +40,7 @@ fn ample_row(count: usize, place: usize) -> usize {
 #[cfg(test)]
 mod tests {
     use super::*;
+    use crate::records::encode_all;
     use crate::refusal::Fault;
     use crate::tally::Tally;
 
@@ -65,14 +61,9 @@ mod tests {
 
     #[test]
     fn the_file_stays_small_and_the_same() {
-        let encode_all = || {
-            let mut file = Vec::new();
-            all(&[]).iter().for_each(|case| case.encode(&mut file));
-            file
-        };
-        let file = encode_all();
-        assert!(file.len() <= 1_500_000);
-        assert!((3_000..=4_600).contains(&all(&[]).len()));
-        assert_eq!(file, encode_all());
+        let cases = all(&[]);
+        assert!(encode_all(&cases).len() <= 1_500_000);
+        assert!((3_000..=4_600).contains(&cases.len()));
+        assert_eq!(cases, all(&[]));
     }
 }

@@ -1,10 +1,10 @@
 //! One fault at a time, at every check.
 
 use super::ample_row;
-use super::spoil::{Spoil, real_lengths, spoilt, thorough};
 use crate::cases::build::{
     EntryPlan, creator_sid, fix_size, list_of, list_of_plans, nt_sid, set_count, set_size,
 };
+use crate::cases::spoil::{Spoil, real_lengths, spoilt, thorough};
 use crate::records::Case;
 
 const COUNT: usize = 3;

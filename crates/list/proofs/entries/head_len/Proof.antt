@@ -1,28 +1,25 @@
--- Each return is a row of the table. Assumes nothing.
-use Rattle.list.proofs.Tests.{tests}
-use Rattle.list.specs.Entry.{objectOf, objectKind, headOf}
+-- An object type, or another. Assumes nothing.
+use borrow.Author.Needs.{needs}
+use mathlib.Core.Path.{_≡_, sym, _∙_}
+use mathlib.Core.Bool.{true, false}
+use Rattle.list.specs.Entry.{objectKind, headOf}
 use Rattle.list.proofs.entries.head_len.Statement.{statement}
 use Rattle.list.proofs.entries.head_len.Tie as tie
 
+is-object-requires : tie.Need-is-object-requires
+is-object-requires c κs = search needs
+
 returns : tie.Need-returns
-unfolding headOf objectKind objectOf
+unfolding headOf
 returns c =
-    let a = c .if1 .taken in
-    simp tests
+    let e = sym (c .before .is-object .ensures) ∙ c .if1 .taken in
+    simp e
 
 returns-2 : tie.Need-returns-2
-unfolding headOf objectKind objectOf
+unfolding headOf
 returns-2 c =
-    let a = c .before .if1 .left in
-    let b = c .if2 .taken in
-    simp tests
-
-returns-3 : tie.Need-returns-3
-unfolding headOf objectKind objectOf
-returns-3 c =
-    let a = c .before .if1 .left in
-    let b = c .if2 .left in
-    simp tests
+    let e = sym (c .before .is-object .ensures) ∙ c .if1 .left in
+    simp e
 
 pub head-len-spec : {M : Type 1} → statement M
-head-len-spec = tie.close (tie.spec returns returns-2 returns-3)
+head-len-spec = tie.close (tie.spec is-object-requires returns returns-2)

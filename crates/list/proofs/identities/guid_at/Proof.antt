@@ -9,16 +9,16 @@ use lib.ListN.{length, take, drop, replicate, length-drop}
 use lib.Seq.{length-take-le}
 use lib.Dec.{leb}
 use borrow.Author.Tests.{le-leb, lt-leb}
-use Rattle.list.specs.Bytes.{front, guidAt}
-use Rattle.list.proofs.Writes.{front-all}
+use Rattle.list.specs.Bytes.{putOn, guidAt}
+use Rattle.list.proofs.Writes.{front-all, put-all}
 use Rattle.list.proofs.identities.guid_at.Statement.{statement}
 use Rattle.list.proofs.identities.guid_at.Tie as tie
 
 -- sixteen bytes over sixteen zeros
-filled : (s : List ℕ) (at n : ℕ) → n ≡ 16 → at + 16 ≤ length s → front (take n (drop at s)) (replicate 16 0) ≡ take 16 (drop at s)
+filled : (s : List ℕ) (at n : ℕ) → n ≡ 16 → at + 16 ≤ length s → putOn (take n (drop at s)) (replicate 16 0) ≡ take 16 (drop at s)
 filled s at n e h =
     let l : length (take 16 (drop at s)) ≡ 16 = length-take-le 16 (drop at s) (rw length-drop (omega arith)) in
-    rw e (front-all (take 16 (drop at s)) (replicate 16 0) (omega arith))
+    rw e (put-all (take 16 (drop at s)) (replicate 16 0) (omega arith) ∙ front-all (take 16 (drop at s)) (replicate 16 0) (omega arith))
 
 returns : tie.Need-returns
 unfolding guidAt

@@ -1,21 +1,23 @@
 -- The loop copies: `i` bytes of `from` stand before what was there. Assumes nothing.
 use borrow.Author.Needs.{needs}
 use native.Mathlib.Omega.{arith}
-use mathlib.Core.Path.{_≡_, ap, _∙_}
-use mathlib.Core.List.{List, _++_}
-use Prim.Native.Nat.{ℕ, _≤_, _-_}
+use mathlib.Core.Path.{_≡_, _∙_}
+use mathlib.Core.List.{_++_}
+use Prim.Native.Nat.{_≤_, _-_, min}
 use denote.Ref.{now}
 use lib.ListN.{length, take, drop, length-set}
-use lib.Seq.{take-length}
-use Rattle.list.proofs.Writes.{copy-more}
+use Rattle.list.proofs.Writes.{copy-more, put-both}
 use Rattle.list.proofs.numbers.put.Statement.{statement}
 use Rattle.list.proofs.numbers.put.Tie as tie
 
 abbrev Inv-loop : tie.InvT-loop
-Inv-loop to₀ from i₀ to i = (i ≤ length from) × (length to ≡ length to₀) × (to ≡ take i from ++ drop i to₀)
+Inv-loop to₀ from n i₀ to i = (i ≤ n) × (n ≡ min (length from) (length to₀)) × (length to ≡ length to₀) × (to ≡ take i from ++ drop i to₀)
 
 abbrev μ-loop : tie.MeasureT-loop
-μ-loop to₀ from i₀ to i = length from - i
+μ-loop to₀ from n i₀ to i = n - i
+
+least-requires : tie.Need-least-requires Inv-loop μ-loop
+least-requires c κs = search needs
 
 loop-holds : tie.Need-loop-holds Inv-loop μ-loop
 loop-holds c = search needs
@@ -34,21 +36,18 @@ loop-less c = search needs
 
 loop-again : tie.Need-loop-again Inv-loop μ-loop
 loop-again c =
-    let l = c .before .before in
-    let s = now (l .before .args .from) in
-    let d = now (l .before .args .to) in
-    (omega arith, simp length-set (omega arith), rw (l .loop .inv .2) (copy-more s d (l .loop .i) (omega arith) (omega arith)))
+    let l = c .before .before .loop in
+    let a = c .before .before .before .before .before .before .args in
+    (omega arith, l .inv .1, simp length-set (omega arith), rw (l .inv .3) (copy-more (now (a .from)) (now (a .to)) (l .i) (omega arith) (omega arith)))
 
 same-length : tie.Need-same-length Inv-loop μ-loop
 same-length c = search needs
 
 returns : tie.Need-returns Inv-loop μ-loop
 returns c =
-    let l = c .before in
-    let s = now (l .before .args .from) in
-    let d = now (l .before .args .to) in
-    let e : l .loop .i ≡ length s = omega arith in
-    l .loop .inv .2 ∙ ap (λ (k : ℕ). take k s ++ drop k d) e ∙ rw take-length
+    let l = c .before .loop in
+    let a = c .before .before .before .before .before .args in
+    l .inv .3 ∙ put-both (now (a .from)) (now (a .to)) (l .i) (omega arith)
 
 pub put-spec : {M : Type 1} → statement M
 put-spec =
@@ -56,6 +55,7 @@ put-spec =
     (tie.spec
     Inv-loop
     μ-loop
+    least-requires
     loop-holds
     shared-slice-read-to
     slice-write-to

@@ -7,9 +7,10 @@ use mathlib.Core.List.{List}
 use Prim.Native.Nat.{ℕ}
 use borrow.Author.Tests.{not-true, not-false}
 use denote.Ref.{now}
-use lib.ListN.{length}
+use lib.ListN.{length, replicate}
 use Rattle.list.specs.Identity.{sidLen, isSid, madeOf}
 use Rattle.list.specs.declared.identities.Made.{Made}
+use Rattle.list.proofs.Writes.{put-all}
 use Rattle.list.proofs.Sids.{one-sid, sid-most}
 use Rattle.list.proofs.identities.Sid.from_bytes.Statement.{statement}
 use Rattle.list.proofs.identities.Sid.from_bytes.Tie as tie
@@ -27,19 +28,18 @@ slice-aggregate-put : tie.Need-slice-aggregate-put
 slice-aggregate-put c = search needs
 
 put-requires : tie.Need-put-requires
-put-requires c κs =
-    let i = c .before .before in
-    let b = now (i .before .before .args .b) in
-    let o = one-sid b (sym (i .is-sid .ensures) ∙ not-false _ (c .before .if1 .left)) in
-    omega (arith, sid-most b)
+put-requires c κs = search needs
 
 returns-2 : tie.Need-returns-2
 unfolding madeOf
 returns-2 c =
     let i = c .before .before .before .before in
     let b = now (i .before .before .args .b) in
-    simp (sym (i .is-sid .ensures) ∙ not-false _ (c .before .before .before .if1 .left))
-    (ap {B = Made} (λ (l : List ℕ). record { ok = true; sid = record { bytes = l; len = length b } }) (c .before .put .ensures))
+    let y = sym (i .is-sid .ensures) ∙ not-false _ (c .before .before .before .if1 .left) in
+    let o = one-sid b y in
+    simp y
+    (ap {B = Made} (λ (l : List ℕ). record { ok = true; sid = record { bytes = l; len = length b } })
+    (c .before .put .ensures ∙ put-all b (replicate 68 0) (omega (arith, sid-most b))))
 
 pub from-bytes-spec : {M : Type 1} → statement M
 from-bytes-spec =

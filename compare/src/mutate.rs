@@ -126,7 +126,9 @@ pub fn mutate_identity(random: &mut Random, mut bytes: Vec<u8>) -> Vec<u8> {
         }
         // n and the length change together: again one SID, but for n 16
         _ => {
-            bytes[1] = bytes[1].wrapping_add(1);
+            if let Some(n) = bytes.get_mut(1) {
+                *n = n.wrapping_add(1);
+            }
             bytes.extend([0; 4]);
         }
     }

@@ -1,0 +1,78 @@
+//! Computing a new object's list.
+
+mod generate;
+
+use crate::capi::{self, WhenEmpty};
+use crate::report::Report;
+use second::computing::{self, Request};
+use second::hex;
+use second::random::Random;
+use second::records::{Case, encode_all};
+
+/// Bytes before and after the room that nobody may touch.
+const MARGIN: usize = 16;
+/// Lists that are longer together are told by their lengths.
+const LONGEST_TOLD: usize = 4_000;
+
+pub fn compare(cases: usize, seed: u64) -> Report {
+    let mut random = Random::new(seed);
+    let mut report = Report::new("compute");
+    for _ in 0..cases {
+        let (request, room) = generate::request_and_room(&mut random);
+        compare_one(&mut random, &mut report, &request, room);
+    }
+    report
+}
+
+fn compare_one(random: &mut Random, report: &mut Report, request: &Request, room: usize) {
+    let before = random.bytes(room + 2 * MARGIN);
+    let inside = MARGIN..MARGIN + room;
+
+    let mut our_room = before.clone();
+    let outcome = computing::try_compute(request, &mut our_room[inside.clone()]);
+    let ours = match outcome {
+        Ok(done) => {
+            report.add_branch(done.branch.name());
+            done.answer.eight()
+        }
+        Err(refused) => refused.answer().eight(),
+    };
+
+    let lent = request.clone();
+    let mut their_room = before;
+    let mut theirs = [0; 8].map(|_: u32| random.word());
+    let empty = WhenEmpty::draw(random);
+    capi::compute(&lent, &mut their_room[inside], &mut theirs, empty);
+
+    let difference = if theirs != ours {
+        Some(format!("{theirs:?}, second {ours:?}"))
+    } else if their_room != our_room {
+        Some(room_difference(&their_room, &our_room))
+    } else if lent != *request {
+        Some("an input was changed".to_string())
+    } else {
+        None
+    };
+    let told = difference.map(|what| format!("compute {}: {what}", told(request, room)));
+    report.add("compute", ours[0], told);
+}
+
+/// Names the first byte that differs; those of the margin are outside.
+fn room_difference(theirs: &[u8], ours: &[u8]) -> String {
+    let at = theirs.iter().zip(ours).take_while(|(a, b)| a == b).count();
+    let place = at as isize - MARGIN as isize;
+    format!("room byte {place} is {}, second {}", theirs[at], ours[at])
+}
+
+/// The case as a record of the case file, so that it can be tried again; a
+/// long one by its lengths.
+fn told(request: &Request, room: usize) -> String {
+    let lists = [&request.parent, &request.creator, &request.default_list];
+    let lengths = lists.map(Vec::len);
+    if lengths.iter().sum::<usize>() > LONGEST_TOLD {
+        let Request { rule, settings, .. } = request;
+        return format!("rule {rule} settings {settings} room {room} lists of {lengths:?} bytes");
+    }
+    let request = request.clone();
+    hex::encode(&encode_all(&[Case::Compute { request, room }]))
+}

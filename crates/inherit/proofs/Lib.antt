@@ -1,0 +1,17 @@
+pub mod Worked
+pub mod Types
+pub mod Lying
+pub mod Flags
+pub mod Emits
+pub mod One
+pub mod Loops
+pub mod Planned
+pub mod Results
+pub mod Gather
+pub mod Search
+pub mod Fills
+pub mod Sources
+pub mod Refusals
+pub mod Runs
+pub mod Theorems
+pub mod Determined

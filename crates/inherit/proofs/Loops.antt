@@ -1,0 +1,136 @@
+-- What holds at each turn of the two loops over a list's entries.
+use mathlib.Core.Path.{_≡_, refl, sym, ap, ap₂, _∙_}
+use mathlib.Core.Bool.{Bool, false, or-assoc, or-false}
+use mathlib.Core.List.{List, [], _∷_, _++_, append-assoc, append-nil, flatten}
+use Prim.Native.Nat.{ℕ, zero, suc, _+_, _-_, _*_, _≤_, _<_}
+use native.Mathlib.Nat.{add-assoc, add-zero, zero-add}
+use native.Mathlib.Omega.{arith}
+use lib.ListN.{length, take, drop, length-append, length-drop}
+use lib.Seq.{drop-drop, take-all}
+use Rattle.list.specs.Bytes.{front}
+use Rattle.list.specs.Entry.{access, sizeOf}
+use Rattle.list.specs.List.{cut}
+use Rattle.list.specs.Good.{Sound, Passes}
+use Rattle.list.proofs.Rows.{passes-turn}
+use Rattle.list.proofs.Writes.{Stands, Grown, grown, stands-none, stands-length}
+use Rattle.inherit.specs.declared.copies.Pass.{Pass}
+use Rattle.inherit.specs.declared.passes.Measure.{Measure}
+use Rattle.inherit.specs.Given.{Given}
+use Rattle.inherit.specs.Compute.{anyObject}
+use Rattle.inherit.specs.Emit.{emitOf, emitAll, emitted, measureOf, both}
+use Rattle.inherit.proofs.Emits.{emit-turn, emit-none, emit-le, flatten-append, measure-append}
+use Rattle.inherit.proofs.One.{measures, emit-few}
+
+-- `&s[at..]` is what is left
+pub rest-is : (s : List ℕ) (at : ℕ) → take (length s - at) (drop at s) ≡ drop at s
+rest-is s at = take-all (length s - at) (drop at s) (omega (arith, length-drop at s))
+
+both-none : (a : Measure) → both a (record { bytes = 0; count = 0; object = false }) ≡ a
+both-none a = measures (add-zero (a .bytes)) (add-zero (a .count)) (or-false (a .object))
+
+module _ (g : Given) (p : Pass) (rev : ℕ) (s : List ℕ) (n : ℕ) where
+  -- the entry that comes next, and those after it
+  pub next-entry : (at left : ℕ) → 0 < left → Passes access rev left (drop at s)
+      → Sound access rev (drop at s) × Passes access rev (left - 1) (drop (at + sizeOf (drop at s)) s)
+  next-entry at left h r =
+      let t = passes-turn access rev left (drop at s) h r in
+      (t .0, rw (← drop-drop (sizeOf (drop at s)) at s) (t .1))
+
+  pub inside : (at left : ℕ) → 0 < left → Passes access rev left (drop at s) → at + sizeOf (drop at s) ≤ length s
+  inside at left h r = let t = next-entry at left h r .0 in omega (arith, length-drop at s, t .four, t .within)
+
+  turned : (at left : ℕ) → 0 < left → Passes access rev left (drop at s)
+      → emitAll g p (cut left (drop at s)) ≡ emitOf g p (drop at s) ++ emitAll g p (cut (left - 1) (drop (at + sizeOf (drop at s)) s))
+  turned at left h r =
+      emit-turn g p rev left (drop at s) h (next-entry at left h r .0)
+      ∙ ap (λ (t : List ℕ). emitOf g p (drop at s) ++ emitAll g p (cut (left - 1) t)) (drop-drop (sizeOf (drop at s)) at s)
+
+  -- what was measured, with what is still to come, is the measure of all
+  pub record Measuring (total : Measure) (at left : ℕ) : Type 0 where
+    pub most : left ≤ n
+    pub rest : Passes access rev left (drop at s)
+    pub sum : both total (measureOf (emitAll g p (cut left (drop at s)))) ≡ measureOf (emitted g p n s)
+    pub bytes : total .bytes ≤ 65603 * (n - left)
+    pub count : total .count ≤ n - left
+
+  pub measuring-none : Passes access rev n (drop 8 s) → Measuring (record { bytes = 0; count = 0; object = false }) 8 n
+  measuring-none r = record { most = omega arith; rest = r; sum = measures (zero-add _) (zero-add _) refl; bytes = omega arith; count = omega arith }
+
+  both-assoc : (a b c : Measure) → both (both a b) c ≡ both a (both b c)
+  both-assoc a b c = measures (add-assoc (a .bytes) (b .bytes) (c .bytes)) (add-assoc (a .count) (b .count) (c .count)) (or-assoc (a .object) (b .object) (c .object))
+
+  module _ (total : Measure) (at left : ℕ) (m : Measuring total at left) (h : 0 < left) (small : sizeOf (drop at s) ≤ 65535)
+      (lo : length (g .owner) ≤ 68) (lg : length (g .group) ≤ 68) where
+    pub few : length (flatten (emitOf g p (drop at s))) ≤ 65603
+    few = omega (arith, emit-le g p rev (drop at s) (next-entry at left h (m .rest) .0) lo lg)
+
+    pub measuring-more : Measuring (both total (measureOf (emitOf g p (drop at s)))) (at + sizeOf (drop at s)) (left - 1)
+    measuring-more =
+        let k = m .most in
+        let i : n - (left - 1) ≡ n - left + 1 = omega arith in
+        record {
+          most = omega arith;
+          rest = next-entry at left h (m .rest) .1;
+          sum =
+              both-assoc total (measureOf (emitOf g p (drop at s))) _
+              ∙ ap (both total) (sym (measure-append (emitOf g p (drop at s)) _) ∙ ap measureOf (sym (turned at left h (m .rest))))
+              ∙ m .sum;
+          bytes = omega (arith, few, m .bytes, i);
+          count = omega (arith, emit-few g p (drop at s), m .count, i);
+        }
+
+  pub measured-all : (total : Measure) (at left : ℕ) → Measuring total at left → left ≤ 0 → total ≡ measureOf (emitted g p n s)
+  unfolding flatten anyObject
+  measured-all total at left m h =
+      sym (both-none total) ∙ ap (λ (es : List (List ℕ)). both total (measureOf es)) (sym (emit-none g p left (drop at s) h)) ∙ m .sum
+
+  -- what was written stands on the front, and with what is still to come it is all
+  pub record Writing (out₀ out : List ℕ) (to at left : ℕ) : Type 0 where
+    pub most : left ≤ n
+    pub rest : Passes access rev left (drop at s)
+    pub stands : Stands out out₀ to
+    pub sofar : take to out ++ flatten (emitAll g p (cut left (drop at s))) ≡ flatten (emitted g p n s)
+
+  pub writing-none : (out : List ℕ) → Passes access rev n (drop 8 s) → Writing out out 0 8 n
+  writing-none out r = record { most = omega arith; rest = r; stands = stands-none out; sofar = refl }
+
+  module _ (out₀ out : List ℕ) (to at left : ℕ) (w : Writing out₀ out to at left) (room : length (flatten (emitted g p n s)) ≤ length out₀) where
+    pub to-fits : to ≤ length out₀
+    to-fits =
+        omega (arith, w .stands .long, ap length (w .sofar), length-append (take to out) (flatten (emitAll g p (cut left (drop at s)))))
+
+    pub long : length out ≡ length out₀
+    long = stands-length out out₀ to (w .stands) to-fits
+
+    module _ (h : 0 < left) where
+      all : take to out ++ (flatten (emitOf g p (drop at s)) ++ flatten (emitAll g p (cut (left - 1) (drop (at + sizeOf (drop at s)) s)))) ≡ flatten (emitted g p n s)
+      all =
+          ap (λ (x : List ℕ). take to out ++ x) (sym (flatten-append (emitOf g p (drop at s)) _) ∙ ap flatten (sym (turned at left h (w .rest)))) ∙ w .sofar
+
+      pub one-fits : to + length (flatten (emitOf g p (drop at s))) ≤ length out₀
+      one-fits =
+          omega (arith, w .stands .long, ap length all, length-append (take to out) (flatten (emitOf g p (drop at s)) ++ flatten (emitAll g p (cut (left - 1) (drop (at + sizeOf (drop at s)) s)))), length-append (flatten (emitOf g p (drop at s))) (flatten (emitAll g p (cut (left - 1) (drop (at + sizeOf (drop at s)) s)))))
+
+      pub writing-more : (ys : List ℕ) (k : ℕ) → ys ≡ front (flatten (emitOf g p (drop at s))) (take (length out - to) (drop to out)) → k ≡ length (flatten (emitOf g p (drop at s)))
+          → Writing out₀ (take to out ++ (ys ++ drop (length out - to) (drop to out))) (to + k) (at + sizeOf (drop at s)) (left - 1)
+      writing-more ys k ey ek =
+          let b = w .most in
+          let f = one-fits in
+          let q = grown out₀ out ys (flatten (emitOf g p (drop at s))) to k (w .stands) ey ek (omega arith) in
+          record {
+            most = omega arith;
+            rest = next-entry at left h (w .rest) .1;
+            stands = q .stands;
+            sofar =
+                ap (λ (x : List ℕ). x ++ flatten (emitAll g p (cut (left - 1) (drop (at + sizeOf (drop at s)) s)))) (q .more)
+                ∙ append-assoc (take to out) (flatten (emitOf g p (drop at s))) _
+                ∙ all;
+          }
+
+    pub written-all : left ≤ 0 → (to ≡ length (flatten (emitted g p n s))) × (out ≡ front (flatten (emitted g p n s)) out₀)
+    unfolding flatten
+    written-all h =
+        let z = emit-none g p left (drop at s) h in
+        let e : take to out ≡ flatten (emitted g p n s) =
+        sym (append-nil (take to out)) ∙ ap (λ (x : List (List ℕ)). take to out ++ flatten x) (sym z) ∙ w .sofar in
+        (sym (w .stands .long) ∙ ap length e, w .stands .whole ∙ ap (λ (x : List ℕ). front x out₀) e)

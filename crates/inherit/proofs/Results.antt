@@ -1,0 +1,152 @@
+-- What a result is: whole entries under the revision that they ask for, and no placeholder among them.
+use mathlib.Core.Path.{_≡_, refl}
+use mathlib.Core.Bool.{Bool, true, false, cond, _||_}
+use mathlib.Core.List.{List, [], _∷_, _++_}
+use Prim.Native.Nat.{ℕ, _<_}
+use native.Mathlib.Omega.{arith}
+use lib.ListN.{length}
+use lib.Dec.{eqb}
+use borrow.Author.Tests.{eqb-false}
+use Rattle.list.specs.Identity.{isSid, placeholderOf}
+use Rattle.list.specs.Entry.{access, objectKind, kindOf, flagsOf, maskOf, sidOf}
+use Rattle.list.specs.Good.{Whole, Every}
+use Rattle.list.proofs.Sids.{OneSid, one-sid}
+use Rattle.list.proofs.Remade.{remade-whole, remade-sid}
+use Rattle.list.proofs.Revisions.{flags-le, flags-ok, whole-four, whole-plain, one-own, no-placeholder, every-append, every-cond, every-to}
+use Rattle.inherit.specs.declared.branch.Plan.{Plan}
+use Rattle.inherit.specs.declared.copies.Pass.{Pass}
+use Rattle.inherit.specs.declared.copies.Pass.the-variants.{First, Second, Own, All}
+use Rattle.inherit.specs.Given.{Given}
+use Rattle.inherit.specs.Last.{inPlace, mapped}
+use Rattle.inherit.specs.Compute.{anyObject, revFor}
+use Rattle.inherit.specs.Emit.{takesBy, flagsBy, copyOf, emitOf, emitAll}
+use Rattle.inherit.specs.Plan.{planned}
+use Rattle.inherit.proofs.Flags.{by-le}
+use Rattle.inherit.proofs.Emits.{emit-yes, emit-no}
+
+-- what stands in a SID's place is one SID, and no placeholder
+cond-one : (b : Bool) (x y : List ℕ) → OneSid x → OneSid y → OneSid (cond b x y)
+cond-one true x y h k = h
+cond-one false x y h k = k
+
+in-place-one : (k : ℕ) (sid owner group : List ℕ) → OneSid sid → OneSid owner → OneSid group → OneSid (inPlace k sid owner group)
+unfolding inPlace
+in-place-one k sid owner group s o g = cond-one (eqb k 1) owner _ o (cond-one (eqb k 2) group sid g s)
+
+pub in-place-ordinary : (s owner group : List ℕ) → placeholderOf owner ≡ 0 → placeholderOf group ≡ 0 → placeholderOf (inPlace (placeholderOf s) s owner group) ≡ 0
+unfolding inPlace
+in-place-ordinary s owner group o g = by (eqb (placeholderOf s) 1) (eqb (placeholderOf s) 2) refl refl
+  where
+    by : (a b : Bool) → eqb (placeholderOf s) 1 ≡ a → eqb (placeholderOf s) 2 ≡ b → placeholderOf (cond a owner (cond b group s)) ≡ 0
+    by true b p q = o
+    by false true p q = g
+    by false false p q = no-placeholder s (eqb-false _ 1 p) (eqb-false _ 2 q)
+
+-- a whole entry's copy
+module _ (g : Given) (o : isSid (g .owner) ≡ true) (r : isSid (g .group) ≡ true) (p : Pass) (rev : ℕ) (e : List ℕ) (w : Whole access rev e) where
+  two : 1 < length e
+  two = omega (arith, w .sound .four)
+
+  one : OneSid (inPlace (placeholderOf (sidOf e)) (sidOf e) (g .owner) (g .group))
+  one = in-place-one (placeholderOf (sidOf e)) (sidOf e) (g .owner) (g .group) (one-own access rev e (w .sound)) (one-sid (g .owner) o) (one-sid (g .group) r)
+
+  copy-whole : Whole access rev (copyOf (flagsBy p (flagsOf e)) (g .mapping) (g .owner) (g .group) e)
+  unfolding copyOf
+  copy-whole =
+      remade-whole access rev e w (flagsBy p (flagsOf e)) (mapped (g .mapping) (maskOf e))
+      (flags-ok _ (by-le p (flagsOf e) (flags-le (flagsOf e) (w .sound .flags)))) _ one
+
+  copy-sid : sidOf (copyOf (flagsBy p (flagsOf e)) (g .mapping) (g .owner) (g .group) e)
+      ≡ inPlace (placeholderOf (sidOf e)) (sidOf e) (g .owner) (g .group)
+  unfolding copyOf
+  copy-sid =
+      remade-sid access rev e w (flagsBy p (flagsOf e)) (mapped (g .mapping) (maskOf e))
+      (flags-ok _ (by-le p (flagsOf e) (flags-le (flagsOf e) (w .sound .flags)))) _ one
+
+  -- what holds of the copy holds of what the entry gives
+  every-given : (P : List ℕ → Type 0) → P (copyOf (flagsBy p (flagsOf e)) (g .mapping) (g .owner) (g .group) e) → Every P (emitOf g p e)
+  every-given P h = by (takesBy g p e) refl
+    where
+      by : (b : Bool) → takesBy g p e ≡ b → Every P (emitOf g p e)
+      by true q = rw (emit-yes g p e q two) (h, tt)
+      by false q = rw (emit-no g p e q) tt
+
+  -- a whole entry gives whole entries
+  pub emit-whole : Every (Whole access rev) (emitOf g p e)
+  emit-whole = every-given (Whole access rev) copy-whole
+
+  -- and none that names a placeholder
+  pub emit-ordinary : placeholderOf (g .owner) ≡ 0 → placeholderOf (g .group) ≡ 0 → Every (λ x. placeholderOf (sidOf x) ≡ 0) (emitOf g p e)
+  emit-ordinary po pr = every-given _ (rw copy-sid (in-place-ordinary (sidOf e) (g .owner) (g .group) po pr))
+
+-- what each entry gives, a pass gives, and a plan
+module _ (g : Given) (P : List ℕ → Type 0) where
+  every-emitted : (p : Pass) (rev : ℕ) → ((e : List ℕ) → Whole access rev e → Every P (emitOf g p e))
+      → (es : List (List ℕ)) → Every (Whole access rev) es → Every P (emitAll g p es)
+  unfolding emitAll
+  every-emitted p rev f [] a = tt
+  every-emitted p rev f (e ∷ es) a = every-append P (emitOf g p e) (emitAll g p es) (f e (a .0)) (every-emitted p rev f es (a .1))
+
+  module _ (f : (p : Pass) (rev : ℕ) (e : List ℕ) → Whole access rev e → Every P (emitOf g p e)) where
+    under : (p : Pass) (rev : ℕ) (b : Bool) (es : List (List ℕ)) → Every (Whole access rev) es → Every P (emitAll g p (cond b es []))
+    under p rev b es a = every-emitted p rev (f p rev) (cond b es []) (every-cond (Whole access rev) b es a)
+
+    every-planned : (q : Plan) (ps cs ds : List (List ℕ)) (rp rc rd : ℕ)
+        → Every (Whole access rp) ps → Every (Whole access rc) cs → Every (Whole access rd) ds → Every P (planned g q ps cs ds)
+    unfolding planned
+    every-planned q ps cs ds rp rc rd wp wc wd =
+        let mine = emitAll g Own (cond (q .own) cs []) in
+        let first = emitAll g First (cond (q .parent) ps []) in
+        let second = emitAll g Second (cond (q .parent) ps []) in
+        let rest = emitAll g All (cond (q .default) ds []) in
+        every-append P mine (first ++ (second ++ rest)) (under Own rc (q .own) cs wc)
+        (every-append P first (second ++ rest) (under First rp (q .parent) ps wp)
+        (every-append P second rest (under Second rp (q .parent) ps wp) (under All rd (q .default) ds wd)))
+
+-- entries that are whole under revision 4 are so under the revision that they ask for
+or-false : (a b : Bool) → (a || b) ≡ false → (a ≡ false) × (b ≡ false)
+or-false true b h = let z : _≡_ {A = ℕ} 0 1 = cc in absurd (omega arith)
+or-false false b h = (refl, h)
+
+plain-all : (r : ℕ) (es : List (List ℕ)) → anyObject es ≡ false → Every (Whole access 4) es → Every (Whole access r) es
+unfolding anyObject
+plain-all r [] h a = tt
+plain-all r (e ∷ es) h a =
+    let n = or-false (objectKind (kindOf e)) (anyObject es) h in
+    (whole-plain access 4 r e (a .0) (n .0), plain-all r es (n .1) (a .1))
+
+pub rev-whole : (es : List (List ℕ)) → Every (Whole access 4) es → Every (Whole access (revFor es)) es
+rev-whole es a = by (anyObject es) refl
+  where
+    by : (b : Bool) → anyObject es ≡ b → Every (Whole access (cond b 4 2)) es
+    by true q = a
+    by false q = plain-all 2 es q a
+
+-- so are those that are whole under any one revision
+pub rev-any : (rev : ℕ) (es : List (List ℕ)) → Every (Whole access rev) es → Every (Whole access (revFor es)) es
+rev-any rev es a = rev-whole es (every-to (Whole access rev) (Whole access 4) (whole-four access rev) es a)
+
+-- the results of a pass and of a plan
+module _ (g : Given) (o : isSid (g .owner) ≡ true) (r : isSid (g .group) ≡ true) where
+  pub emit-all-whole : (p : Pass) (rev : ℕ) (es : List (List ℕ)) → Every (Whole access rev) es → Every (Whole access rev) (emitAll g p es)
+  emit-all-whole p rev = every-emitted g (Whole access rev) p rev (emit-whole g o r p rev)
+
+  pub planned-four : (q : Plan) (ps cs ds : List (List ℕ)) (rp rc rd : ℕ)
+      → Every (Whole access rp) ps → Every (Whole access rc) cs → Every (Whole access rd) ds → Every (Whole access 4) (planned g q ps cs ds)
+  planned-four =
+      every-planned g (Whole access 4)
+      (λ p rev e w. every-to (Whole access rev) (Whole access 4) (whole-four access rev) (emitOf g p e) (emit-whole g o r p rev e w))
+
+  pub planned-whole : (q : Plan) (ps cs ds : List (List ℕ)) (rp rc rd : ℕ)
+      → Every (Whole access rp) ps → Every (Whole access rc) cs → Every (Whole access rd) ds
+      → Every (Whole access (revFor (planned g q ps cs ds))) (planned g q ps cs ds)
+  planned-whole q ps cs ds rp rc rd wp wc wd = rev-whole (planned g q ps cs ds) (planned-four q ps cs ds rp rc rd wp wc wd)
+
+  module _ (po : placeholderOf (g .owner) ≡ 0) (pr : placeholderOf (g .group) ≡ 0) where
+    pub emit-all-ordinary : (p : Pass) (rev : ℕ) (es : List (List ℕ)) → Every (Whole access rev) es → Every (λ x. placeholderOf (sidOf x) ≡ 0) (emitAll g p es)
+    emit-all-ordinary p rev = every-emitted g _ p rev (λ e w. emit-ordinary g o r p rev e w po pr)
+
+    pub planned-ordinary : (q : Plan) (ps cs ds : List (List ℕ)) (rp rc rd : ℕ)
+        → Every (Whole access rp) ps → Every (Whole access rc) cs → Every (Whole access rd) ds
+        → Every (λ x. placeholderOf (sidOf x) ≡ 0) (planned g q ps cs ds)
+    planned-ordinary = every-planned g _ (λ p rev e w. emit-ordinary g o r p rev e w po pr)

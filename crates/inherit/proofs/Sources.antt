@@ -1,0 +1,66 @@
+-- A list that may be absent: its refusal, or its entries as the code goes over them.
+use mathlib.Core.Path.{_≡_, refl, sym, ap, subst, _∙_}
+use mathlib.Core.Bool.{Bool, true, false, cond}
+use mathlib.Core.List.{List, []}
+use Prim.Native.Nat.{ℕ, _≤_, _<_}
+use native.Mathlib.Omega.{arith}
+use lib.ListN.{drop}
+use Rattle.list.specs.Entry.{access}
+use Rattle.list.specs.List.{cut, revOf, checkOf}
+use Rattle.list.specs.Good.{Whole, Passes, Every}
+use Rattle.list.specs.declared.lists.Reading.{Reading}
+use Rattle.list.specs.declared.lists.Reading.the-variants.{Done, Refused as Unread}
+use Rattle.list.proofs.Answers.{ListNumber, list-number}
+use Rattle.list.proofs.Told.{told}
+use Rattle.list.proofs.Parts.{laid, cut-none, entries-are}
+use Rattle.inherit.specs.declared.tests.Source.{Source}
+use Rattle.inherit.specs.declared.Computed.{Computed}
+use Rattle.inherit.specs.declared.Computed.the-variants.{Refused}
+use Rattle.inherit.specs.Given.{Optional, absent, present, lent, entriesIf}
+use Rattle.inherit.specs.Compute.{onReading, readable}
+use Rattle.inherit.specs.Source.{sourceBy, sourceOf, Found}
+
+-- the entries of a list that was found good
+pub record Sourced (b : Bool) (s : List ℕ) (src : Source) : Type 0 where
+  pub passes : Passes access (src .rev) (src .count) (drop 8 s)
+  pub entries : entriesIf (lent b s) ≡ cut (src .count) (drop 8 s)
+  pub wholes : Every (Whole access (src .rev)) (entriesIf (lent b s))
+
+by-reading : (s : List ℕ) (r : Reading) → checkOf access s ≡ r → sourceBy r (revOf s) .number ≡ 0 → Sourced true s (sourceBy r (revOf s))
+unfolding sourceBy entriesIf
+by-reading s (Done l n) q h =
+    let t = told access s l n q .listed in
+    record { passes = t .passes; entries = entries-are access s n t; wholes = laid access s n t .wholes }
+by-reading s (Unread k at) q h = let z = subst ListNumber q (list-number access s) in absurd (omega (arith, z .0))
+
+pub sourced-of : (b : Bool) (s : List ℕ) → sourceOf (lent b s) .number ≡ 0 → Sourced b s (sourceOf (lent b s))
+unfolding sourceOf entriesIf
+sourced-of true s h = by-reading s (checkOf access s) refl h
+sourced-of false s h = record { passes = tt; entries = sym (cut-none (drop 8 s)); wholes = tt }
+
+pub sourced : (b : Bool) (s : List ℕ) (src : Source) → Found (lent b s) src → Sourced b s src
+sourced b s src f =
+    subst (Sourced b s) (sym (f .is)) (sourced-of b s (ap (λ (x : Source). x .number) (sym (f .is)) ∙ f .good))
+
+-- a list that was found good is passed over, another one is the answer
+on-reading : (r : Reading) (rev which : ℕ) (rest : Computed) → ListNumber r → (sourceBy r rev .number ≡ 0 → onReading r which rest ≡ rest)
+    × ((sourceBy r rev .number ≡ 0 → ⊥) → onReading r which rest ≡ Refused (sourceBy r rev .number) which (sourceBy r rev .offset))
+unfolding sourceBy onReading
+on-reading (Done l n) rev which rest k = (λ h. refl, λ h. absurd (h refl))
+on-reading (Unread j at) rev which rest k = (λ h. absurd (omega (arith, k .0)), λ h. refl)
+
+pub readable-good : (o : Optional) (which : ℕ) (rest : Computed) → sourceOf o .number ≡ 0 → readable o which rest ≡ rest
+unfolding sourceOf readable
+readable-good absent which rest h = refl
+readable-good (present s) which rest h = on-reading (checkOf access s) (revOf s) which rest (list-number access s) .0 h
+
+pub readable-bad : (o : Optional) (which : ℕ) (rest : Computed) → (sourceOf o .number ≡ 0 → ⊥)
+    → readable o which rest ≡ Refused (sourceOf o .number) which (sourceOf o .offset)
+unfolding sourceOf readable
+readable-bad absent which rest h = absurd (h refl)
+readable-bad (present s) which rest h = on-reading (checkOf access s) (revOf s) which rest (list-number access s) .1 h
+
+-- none of the entries where a list gives nothing
+pub cond-cut : (b : Bool) (n : ℕ) (t : List ℕ) → cond b (cut n t) [] ≡ cut (cond b n 0) t
+cond-cut true n t = refl
+cond-cut false n t = sym (cut-none t)

@@ -1,0 +1,46 @@
+-- A good entry, since the entry is sound. Assumes nothing.
+use borrow.Author.Needs.{needs}
+use native.Mathlib.Omega.{arith}
+use mathlib.Core.Path.{_≡_, sym, ap, _∙_}
+use mathlib.Core.List.{List}
+use Prim.Native.Nat.{ℕ}
+use denote.Ref.{now}
+use Rattle.list.specs.Entry.{access, entryOf, fieldsOf}
+use Rattle.list.specs.declared.entries.Entry.{Entry}
+use Rattle.list.specs.declared.entries.Checked.the-variants.{Good, Bad}
+use Rattle.list.proofs.Cases.{fields, is-good}
+use Rattle.inherit.proofs.passes.pick.Statement.{statement}
+use Rattle.inherit.proofs.passes.pick.Tie as tie
+
+fields-here : (c : tie.After-e) → c .e .given .0 .0 ≡ fieldsOf (now (c .before .before .before .before .args .t))
+fields-here c = fields access (c .before .before .before .before .args .rev) _ _ (sym (c .before .before .entry-of .ensures) ∙ c .e .given .1)
+
+bad-never : (c : tie.After-enum-told) → ⊥
+bad-never c =
+    let s = c .before .before .before .before in
+    let g = is-good access (s .args .rev) (now (s .args .t)) (s .pre .1) in
+    let b = sym (c .before .before .entry-of .ensures) ∙ c .enum-told .given .1 in
+    let z : _≡_ {A = ℕ} 0 1 = cc in
+    omega arith
+
+entry-of-requires : tie.Need-entry-of-requires
+entry-of-requires c κs = search needs
+
+enum-known-e : tie.Need-enum-known-e
+enum-known-e c = search needs
+
+takes-requires : tie.Need-takes-requires
+takes-requires c κs = (c .before .before .before .before .before .pre .0, fields-here (c .before))
+
+enum-told : tie.Need-enum-told
+enum-told c = search needs
+
+returns : tie.Need-returns
+returns c = (fields-here (c .before .before), c .takes .ensures)
+
+returns-2 : tie.Need-returns-2
+returns-2 c = absurd (bad-never c)
+
+pub pick-spec : {M : Type 1} → statement M
+pick-spec =
+    tie.close (tie.spec entry-of-requires enum-known-e takes-requires enum-told returns returns-2)

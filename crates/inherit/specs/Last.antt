@@ -1,0 +1,41 @@
+-- The last step: entries pass by a filter; a placeholder becomes the owner or the group; generic bits are mapped.
+use Prim.Native.Nat.{ℕ}
+use mathlib.Core.List.{List, [], _∷_, _++_}
+use mathlib.Core.Bool.{Bool, true, false, not, cond, _||_}
+use lib.Dec.{eqb}
+use lib.Bits.{bitOr}
+use Rattle.list.specs.Identity.{placeholderOf}
+use Rattle.list.specs.Entry.{kindOf, flagsOf, maskOf, middleOf, sidOf, tailOf, entryBytes}
+use Rattle.inherit.specs.declared.Mapping.{Mapping}
+use Rattle.inherit.specs.Given.{Given, has}
+
+-- what stands in a SID's place: for creator owner the owner's bytes, for creator group the group's, else its own
+unfoldable pub inPlace : ℕ → List ℕ → List ℕ → List ℕ → List ℕ
+inPlace which sid owner group = cond (eqb which 1) owner (cond (eqb which 2) group sid)
+
+-- a mapping is joined where the mask as it came has the bit
+abbrev pub joined : ℕ → ℕ → ℕ → ℕ → ℕ
+joined bit came mask mapping = cond (has bit came) (bitOr mask mapping) mask
+
+-- 80000000 joins the read mapping, 40000000 the write mapping, 20000000 the execute mapping; 10000000 adds nothing
+unfoldable pub mapped : Mapping → ℕ → ℕ
+mapped m mask =
+    joined 0x20000000 mask (joined 0x40000000 mask (joined 0x80000000 mask mask (m .read)) (m .write)) (m .execute)
+
+-- an entry as the last step leaves it
+unfoldable pub resolved : Given → List ℕ → List ℕ
+resolved g e =
+    entryBytes (kindOf e) (flagsOf e) (mapped (g .mapping) (maskOf e)) (middleOf e)
+    (inPlace (placeholderOf (sidOf e)) (sidOf e) (g .owner) (g .group)) (tailOf e)
+
+-- the filter: all, or ID only
+abbrev pub passesFilter : Bool → List ℕ → Bool
+passesFilter onlyId e = not onlyId || has 0x10 (flagsOf e)
+
+-- what becomes of one entry: none or one
+unfoldable pub lastOf : Given → Bool → List ℕ → List (List ℕ)
+lastOf g onlyId e = cond (passesFilter onlyId e) (resolved g e ∷ []) []
+
+unfoldable pub lastStep : Given → Bool → List (List ℕ) → List (List ℕ)
+lastStep g onlyId [] = []
+lastStep g onlyId (e ∷ es) = lastOf g onlyId e ++ lastStep g onlyId es

@@ -1,0 +1,8 @@
+pub mod Given
+pub mod Copies
+pub mod Last
+pub mod Branch
+pub mod Compute
+pub mod Emit
+pub mod Plan
+pub mod Source

@@ -1,0 +1,369 @@
+use super::*;
+use crate::cases::inherit::worked;
+use crate::hex;
+
+const SYSTEM: &str = "01 01 000000000005 12000000";
+const CREATOR_OWNER: &str = "01 01 000000000003 00000000";
+const CREATOR_GROUP: &str = "01 01 000000000003 01000000";
+const GUID: &str = "00112233445566778899AABBCCDDEEFF";
+const OTHER_GUID: &str = "FFEEDDCCBBAA99887766554433221100";
+const EMPTY: &str = "02 00 08 00 00 00 00 00";
+
+const K1: &str = "02 00 30 00 02 00 00 00 \
+    00 10 14 00 89 00 12 80 01 01 00 00 00 00 00 05 12 00 00 00 \
+    00 1B 14 00 89 00 12 80 01 01 00 00 00 00 00 05 12 00 00 00";
+
+fn bytes(text: &str) -> Vec<u8> {
+    hex::decode(text).unwrap()
+}
+
+/// The eight numbers and the list, after a look at the room's other bytes.
+fn run(request: &Request) -> ([u32; 8], Vec<u8>) {
+    let mut room = vec![0xEE; 400];
+    let answer = compute(request, &mut room);
+    let rest = room.split_off(answer.length as usize);
+    assert!(rest.iter().all(|&byte| byte == 0xEE));
+    (answer.eight(), room)
+}
+
+#[track_caller]
+fn assert_done(request: &Request, list: &str, count: u32, control: u32) {
+    let list = bytes(list);
+    let numbers = [0, 0, 0, list.len() as u32, 1, count, control, 0];
+    assert_eq!(run(request), (numbers, list));
+}
+
+#[track_caller]
+fn assert_done_by_either_rule(request: Request, list: &str, count: u32) {
+    for rule in [1, 2] {
+        assert_done(&request.clone().with_rule(rule), list, count, 0);
+    }
+}
+
+#[track_caller]
+fn assert_refused(request: &Request, number: u32, list: u32, offset: u32) {
+    let numbers = [number, list, offset, 0, 0, 0, 0, 0];
+    assert_eq!(run(request), (numbers, Vec::new()));
+}
+
+/// One entry: allow, the mask that read makes, S-1-5-18.
+fn one_entry(flags: &str) -> String {
+    format!("02 00 1C 00 01 00 00 00  00 {flags} 14 00 89 00 12 80 {SYSTEM}")
+}
+
+#[test]
+fn k1_container_without_creator() {
+    assert_done_by_either_rule(worked::k1(), K1, 2);
+    let parent = "02 00 1C 00 01 00 00 00 \
+        00 03 14 00 00 00 00 80 01 01 00 00 00 00 00 03 00 00 00 00";
+    assert_eq!(worked::k1().parent, bytes(parent));
+}
+
+#[test]
+fn k2_not_a_container() {
+    assert_done_by_either_rule(worked::k2(), &one_entry("10"), 1);
+}
+
+#[test]
+fn k3_to_k5_other_flags_in_the_parent() {
+    assert_done_by_either_rule(worked::k3(), &one_entry("10"), 1);
+    assert_done_by_either_rule(worked::k4(), &one_entry("19"), 1);
+    assert_done_by_either_rule(worked::k5(), K1, 2);
+}
+
+#[test]
+fn k6_absent() {
+    for rule in [1, 2] {
+        let request = worked::k6().with_rule(rule);
+        assert_eq!(run(&request), ([0; 8], Vec::new()));
+        assert_eq!(compute(&request, &mut []), Answer::default());
+    }
+}
+
+#[test]
+fn k7_to_k9_beside_a_creator() {
+    let creators = format!("00 00 14 00 01 00 00 00 {SYSTEM}");
+    assert_done(&worked::k7(), EMPTY, 0, 0);
+    assert_done(
+        &worked::k8(),
+        &format!("02 00 1C 00 01 00 00 00 {creators}"),
+        1,
+        0,
+    );
+    let k1_entries = &K1[K1.find("00 10").unwrap()..];
+    let all_three = format!("02 00 44 00 03 00 00 00 {creators} {k1_entries}");
+    assert_done(&worked::k9(), &all_three, 3, 0x0400);
+}
+
+#[test]
+fn k10_protected_without_creator() {
+    assert_done_by_either_rule(worked::k10(), K1, 2);
+}
+
+#[test]
+fn k11_placeholders_are_no_owner_and_no_group() {
+    assert_refused(&worked::k11(), 6, 0, 0);
+    for placeholder in [CREATOR_OWNER, CREATOR_GROUP] {
+        let owner = bytes(placeholder);
+        let group = owner.clone();
+        assert_refused(
+            &Request {
+                owner,
+                ..worked::k1()
+            },
+            6,
+            0,
+            0,
+        );
+        assert_refused(
+            &Request {
+                group,
+                ..worked::k6()
+            },
+            6,
+            0,
+            0,
+        );
+    }
+}
+
+#[test]
+fn k12_rooms() {
+    let mut room = [0xEE; 47];
+    let refused = compute(&worked::k12(), &mut room);
+    assert_eq!(refused.eight(), [8, 0, 0, 0, 0, 0, 0, 0]);
+    assert_eq!(room, [0xEE; 47]);
+    let mut room = [0xEE; 48];
+    let done = compute(&worked::k12(), &mut room);
+    assert_eq!(done.eight(), [0, 0, 0, 48, 1, 2, 0, 0]);
+    assert_eq!(room[..], bytes(K1));
+}
+
+#[test]
+fn rule_1_with_automatic_inheritance_keeps_the_parents_part() {
+    assert_done(&worked::k9().with_rule(1), K1, 2, 0x0400);
+    let protected = worked::k9().with_rule(1).with(setting::PROTECTED);
+    assert_done(&protected, EMPTY, 0, 0);
+}
+
+#[test]
+fn a_default_descriptor_leaves_the_creator_out() {
+    let request = worked::k9().with(setting::DEFAULT_DESCRIPTOR);
+    assert_done_by_either_rule(request, K1, 2);
+}
+
+#[test]
+fn a_default_descriptor_counts_where_nothing_is_inheritable() {
+    let request = worked::k6()
+        .with_creator(bytes(&one_entry("08")))
+        .with(setting::DEFAULT_DESCRIPTOR);
+    assert_done_by_either_rule(request, &one_entry("08"), 1);
+}
+
+#[test]
+fn inheritable_entries_that_do_not_apply_leave_an_empty_list() {
+    let parent = format!("02 00 1C 00 01 00 00 00  00 02 14 00 89 00 12 80 {SYSTEM}");
+    let default_list = bytes(&one_entry("00"));
+    let request = worked::k2()
+        .with_parent(bytes(&parent))
+        .with_default(default_list);
+    assert_done_by_either_rule(request.clone(), EMPTY, 0);
+    let automatic = request
+        .with_creator(bytes(EMPTY))
+        .with(setting::AUTO_INHERIT);
+    assert_done(&automatic.clone().with_rule(1), EMPTY, 0, 0x0400);
+    assert_done(&automatic.with_rule(2), EMPTY, 0, 0x0400);
+}
+
+#[test]
+fn empty_lists_are_not_absent() {
+    assert_done_by_either_rule(worked::k6().with_default(bytes(EMPTY)), EMPTY, 0);
+    assert_done_by_either_rule(worked::k6().with_creator(bytes(EMPTY)), EMPTY, 0);
+    let beside = worked::k1().with_creator(bytes(EMPTY));
+    assert_done_by_either_rule(beside, EMPTY, 0);
+}
+
+#[test]
+fn own_entries_drop_inherited_ones_and_the_default_list_keeps_them() {
+    let list = format!(
+        "04 00 44 00 03 00 00 00 \
+         01 12 14 00 01 00 00 00 {SYSTEM} \
+         00 0F 14 00 02 00 00 20 {CREATOR_GROUP} \
+         00 18 14 00 03 00 00 00 {CREATOR_OWNER}"
+    );
+    let request = Request {
+        group: bytes("01 00 000000000001"),
+        ..worked::k6()
+    };
+    let own = "02 00 18 00 01 00 00 00  00 0F 10 00 A2 00 12 20 01 00 000000000001";
+    assert_done_by_either_rule(request.clone().with_creator(bytes(&list)), own, 1);
+    let kept = format!(
+        "02 00 40 00 03 00 00 00 \
+         01 12 14 00 01 00 00 00 {SYSTEM} \
+         00 0F 10 00 A2 00 12 20 01 00 000000000001 \
+         00 18 14 00 03 00 00 00 {SYSTEM}"
+    );
+    assert_done_by_either_rule(request.with_default(bytes(&list)), &kept, 3);
+}
+
+/// Flags 03: with an ObjectType, with an InheritedObjectType, with both.
+fn object_parent() -> Vec<u8> {
+    bytes(&format!(
+        "04 00 90 00 03 00 00 00 \
+         05 03 28 00 01 00 00 00 01000000 {GUID} {SYSTEM} \
+         05 03 28 00 02 00 00 00 02000000 {GUID} {SYSTEM} \
+         06 03 38 00 03 00 00 00 03000000 {OTHER_GUID} {GUID} {CREATOR_OWNER}"
+    ))
+}
+
+#[test]
+fn object_entries_by_their_object_type() {
+    let request = Request {
+        types: bytes(GUID),
+        ..worked::k2().with_parent(object_parent())
+    };
+    let first =
+        format!("04 00 30 00 01 00 00 00  05 10 28 00 01 00 00 00 01000000 {GUID} {SYSTEM}");
+    assert_done_by_either_rule(request.clone(), &first, 1);
+    let others = Request {
+        types: bytes(&format!("{OTHER_GUID}{OTHER_GUID}")),
+        ..request.clone()
+    };
+    let third = format!(
+        "04 00 40 00 01 00 00 00 \
+         06 10 38 00 03 00 00 00 03000000 {OTHER_GUID} {GUID} {SYSTEM}"
+    );
+    assert_done_by_either_rule(others, &third, 1);
+    let none = Request {
+        types: Vec::new(),
+        ..request
+    };
+    assert_done_by_either_rule(none, EMPTY, 0);
+}
+
+#[test]
+fn the_second_part_asks_for_no_type() {
+    let request = worked::k1().with_parent(object_parent());
+    let list = format!(
+        "04 00 90 00 03 00 00 00 \
+         05 1B 28 00 01 00 00 00 01000000 {GUID} {SYSTEM} \
+         05 1B 28 00 02 00 00 00 02000000 {GUID} {SYSTEM} \
+         06 1B 38 00 03 00 00 00 03000000 {OTHER_GUID} {GUID} {SYSTEM}"
+    );
+    assert_done_by_either_rule(request, &list, 3);
+}
+
+#[test]
+fn the_mask_as_it_came_decides() {
+    let with_mask = |mask: &str, sid: &str| {
+        bytes(&format!(
+            "02 00 1C 00 01 00 00 00  00 00 14 00 {mask} {sid}"
+        ))
+    };
+    let mapped = |from: &str, to: &str, mapping: [u32; 4]| {
+        let request = Request {
+            mapping,
+            ..worked::k6().with_default(with_mask(from, SYSTEM))
+        };
+        assert_eq!(run(&request).1, with_mask(to, SYSTEM), "{from}");
+    };
+    mapped("00000080", "01000080", [1, 2, 4, 8]);
+    mapped("00000040", "02000040", [1, 2, 4, 8]);
+    mapped("00000020", "04000020", [1, 2, 4, 8]);
+    mapped("00000010", "00000010", [1, 2, 4, 8]);
+    mapped("000100F0", "070100F0", [1, 2, 4, 8]);
+    mapped("FFFFFF0F", "FFFFFF0F", [1, 2, 4, 8]);
+    // A generic bit that a mapping brings in joins nothing more.
+    mapped("00000080", "010000E0", [0x6000_0001, 2, 4, 8]);
+}
+
+#[test]
+fn near_placeholders_stay() {
+    for sid in ["01 01 000000000003 02000000", "01 01 030000000000 00000000"] {
+        let list = format!("02 00 1C 00 01 00 00 00  00 00 14 00 00 00 00 00 {sid}");
+        assert_done_by_either_rule(worked::k6().with_default(bytes(&list)), &list, 1);
+    }
+}
+
+#[test]
+fn absent_lists_and_unknown_settings_are_not_looked_at() {
+    let request = Request {
+        creator: vec![0xFF; 9],
+        default_list: vec![0xFF],
+        ..worked::k1().with(!setting::ALL)
+    };
+    assert_done_by_either_rule(request, K1, 2);
+}
+
+/// Bad at every stage; then each stage is made good in turn.
+#[test]
+fn refusals_in_order() {
+    let bad_sid = || bytes(&one_entry("03").replacen("01 01", "02 01", 1));
+    let mut request = Request {
+        types: vec![0; 15],
+        owner: Vec::new(),
+        group: bytes(CREATOR_GROUP),
+        ..worked::k1()
+    }
+    .with_rule(3)
+    .with_parent(bad_sid())
+    .with_creator(bytes(&one_entry("20")))
+    .with_default(Vec::new());
+    assert_refused(&request, 12, 0, 0);
+    request.rule = 1;
+    assert_refused(&request, 5, 1, 8);
+    request.parent = bytes(EMPTY);
+    assert_refused(&request, 4, 2, 8);
+    request.creator = bytes(EMPTY);
+    // Tested even where the branch would never use it.
+    assert_refused(&request, 1, 3, 0);
+    request.default_list = bytes(EMPTY);
+    assert_refused(&request, 6, 0, 0);
+    request.owner = bytes(SYSTEM);
+    assert_refused(&request, 6, 0, 0);
+    request.group = bytes(SYSTEM);
+    assert_refused(&request, 7, 0, 0);
+    request.types = vec![0; 64];
+    let refused = compute(&request, &mut [0; 7]);
+    assert_eq!(refused.eight(), [8, 0, 0, 0, 0, 0, 0, 0]);
+    assert_done(&request, EMPTY, 0, 0);
+}
+
+#[test]
+fn lengths_of_types() {
+    for (length, number) in [(0, 0), (1, 7), (16, 0), (17, 7), (64, 0), (65, 7), (80, 7)] {
+        let request = Request {
+            types: vec![0; length],
+            ..worked::k6()
+        };
+        assert_eq!(run(&request).0[0], number, "{length}");
+    }
+}
+
+#[test]
+fn results_of_at_most_65532_bytes() {
+    let entry = |numbers: u8| {
+        let size = 8 + 8 + 4 * numbers;
+        let mut entry = vec![0, 0, size, 0, 0, 0, 0, 0, 1, numbers, 0, 0, 0, 0, 0, 5];
+        entry.resize(usize::from(size), 0);
+        entry
+    };
+    let placeholder = bytes(&format!("00 00 14 00 00000000 {CREATOR_OWNER}"));
+    // 8 + 861 * 76 + 20 + 68 = 65,532
+    let mut list = bytes("02 00 FC FF 5F 03 00 00");
+    list.extend(placeholder);
+    list.extend(entry(15).repeat(861));
+    list.extend(entry(13));
+    let request = worked::k6().with_default(list);
+    let mut room = vec![0; 66_000];
+    assert_eq!(
+        compute(&request, &mut room).eight(),
+        [0, 0, 0, 65_532, 1, 863, 0, 0]
+    );
+    let longer_owner = Request {
+        owner: bytes("01 02 000000000005 12000000 00000000"),
+        ..request
+    };
+    assert_eq!(try_compute(&longer_owner, &mut room), Err(Refused::TooLong));
+    assert_eq!(compute(&longer_owner, &mut room).number, 8);
+}
