@@ -1,4 +1,4 @@
--- Which passes the code makes over which list, in which branch, and what they give together.
+-- Which passes the code makes over which list, in which branch, and what they give together. Only private functions' contracts cite this file.
 use Prim.Native.Nat.{ℕ, _≤_}
 use mathlib.Core.Path.{_≡_}
 use mathlib.Core.List.{List, [], _++_}
