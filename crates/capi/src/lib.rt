@@ -76,16 +76,10 @@ pub extern "C" fn pt_read(list: &[u8], row: &mut [u16], answer: &mut [u32; 8])
     ensures index { λ _. ⌜ now (row .exit) ≡ rowBy (readOf access (now (list .entry)) (length (now (row .entry)))) (now (list .entry)) (now (row .entry)) ⌝ }
 {
     match list::read(list, row) {
-        Reading::Done { length, count } => put_values(
-            answer,
-            0,
-            0,
-            0,
-            length as u32,
-            1,
-            count as u32,
-            0,
-        ),
+        Reading::Done {
+            length,
+            count: entries,
+        } => put_values(answer, 0, 0, 0, length as u32, 1, entries as u32, 0),
         Reading::Refused { number, at } => put_values(
             answer,
             number as u32,
