@@ -1,6 +1,6 @@
 //! The independent second program: reads and refuses access lists and
-//! identities, and computes a new object's list, by document 01. It shares
-//! nothing with the verified code.
+//! identities, computes a new object's list and keeps a tree of objects with
+//! undo, by document 01. It shares nothing with the verified code.
 #![forbid(unsafe_code)]
 
 pub mod ace;
@@ -15,4 +15,6 @@ pub mod random;
 pub mod reading;
 pub mod records;
 pub mod refusal;
+pub mod room;
 pub mod tally;
+pub mod tree;

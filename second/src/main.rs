@@ -11,6 +11,7 @@ use second::tally::Tally;
 const USAGE: &str = "usage:
   second cases list EXAMPLES    write the stored cases for reading
   second cases inherit          write the stored cases for the computation
+  second cases tree             write the stored calls on a tree
   second answer                 answer the case file on standard input
   second check-examples FILE    compare with the answers written by hand
   second tally                  count the answers to the case file on standard input";
@@ -23,6 +24,7 @@ fn main() -> ExitCode {
             read_examples(path).and_then(|examples| write_cases(&cases::list::all(&examples)))
         }
         ["cases", "inherit"] => write_cases(&cases::inherit::all()),
+        ["cases", "tree"] => write_cases(&cases::tree::all()),
         ["answer"] => answer(),
         ["check-examples", path] => check_examples(path),
         ["tally"] => tally(),
@@ -42,8 +44,7 @@ fn write_cases(cases: &[Case]) -> Result<(), String> {
 }
 
 fn answer() -> Result<(), String> {
-    let answers: String = read_cases()?.iter().map(records::answer_line).collect();
-    write_out(answers.as_bytes())
+    write_out(records::answer_lines(&read_cases()?).as_bytes())
 }
 
 fn tally() -> Result<(), String> {

@@ -1,11 +1,13 @@
 //! The case file's records and the answers to them.
 
+pub mod calls;
 mod computation;
 
 use crate::computing::Request;
 use crate::hex;
 use crate::identity::{self, Identity, LONGEST};
 use crate::reading;
+use crate::tree::{Call, Player};
 pub use computation::{LONGEST_OTHER, LONGEST_ROOM, fresh_room};
 
 const KIND_READ: u8 = 1;
@@ -17,6 +19,7 @@ pub enum Case {
     Read { row_length: u16, list: Vec<u8> },
     Identity(Vec<u8>),
     Compute { request: Request, room: usize },
+    Tree(Call),
 }
 
 impl Case {
@@ -30,6 +33,7 @@ impl Case {
             Case::Read { row_length, list } => (KIND_READ, *row_length, list),
             Case::Identity(bytes) => (KIND_IDENTITY, 0, bytes),
             Case::Compute { request, room } => return computation::encode(request, *room, out),
+            Case::Tree(call) => return calls::encode(call, out),
         };
         out.extend_from_slice(&[kind, 0]);
         out.extend_from_slice(&row_length.to_le_bytes());
@@ -38,30 +42,44 @@ impl Case {
     }
 }
 
+/// Calls of a tree are closed by an end; other records need none.
 pub fn encode_all(cases: &[Case]) -> Vec<u8> {
     let mut file = Vec::new();
     for case in cases {
         case.encode(&mut file);
     }
+    if ask_for_an_end(cases) {
+        file.push(calls::END);
+    }
     file
+}
+
+fn ask_for_an_end(cases: &[Case]) -> bool {
+    matches!(cases.last(), Some(Case::Tree(_)))
 }
 
 /// Takes all records of a case file, or says what is wrong with one.
 pub fn decode_all(mut file: &[u8]) -> Result<Vec<Case>, String> {
     let whole = file.len();
     let mut cases = Vec::new();
-    while !file.is_empty() {
+    loop {
+        match (file, ask_for_an_end(&cases)) {
+            ([], false) | ([calls::END], true) => return Ok(cases),
+            ([], true) => return Err("no end".to_string()),
+            _ => {}
+        }
         let at = whole - file.len();
         let (case, rest) = decode(file).map_err(|why| format!("record at {at}: {why}"))?;
         cases.push(case);
         file = rest;
     }
-    Ok(cases)
 }
 
 fn decode(file: &[u8]) -> Result<(Case, &[u8]), &'static str> {
-    if file.first() == Some(&KIND_COMPUTE) {
-        return computation::decode(file);
+    match file.first() {
+        Some(&KIND_COMPUTE) => return computation::decode(file),
+        Some(kind) if calls::KINDS.contains(kind) => return calls::decode(file),
+        _ => {}
     }
     let (head, rest) = file.split_first_chunk::<8>().ok_or("cut head")?;
     let &[kind, zero, row_low, row_high, ref length @ ..] = head;
@@ -84,15 +102,23 @@ pub fn fresh_row(length: u16) -> Vec<u16> {
     (0..length).map(|i| u16::MAX - i).collect()
 }
 
-/// The answer's line, with its newline.
-pub fn answer_line(case: &Case) -> String {
-    let mut line = match case {
+/// A line for each answer. Only the calls of a tree look back at what came
+/// before them.
+pub fn answer_lines(cases: &[Case]) -> String {
+    let mut player = Player::default();
+    cases
+        .iter()
+        .map(|case| answer_line(case, &mut player) + "\n")
+        .collect()
+}
+
+fn answer_line(case: &Case, player: &mut Player) -> String {
+    match case {
         Case::Read { row_length, list } => read_line(*row_length, list),
         Case::Identity(bytes) => identity_line(bytes),
         Case::Compute { request, room } => computation::line(request, *room),
-    };
-    line.push('\n');
-    line
+        Case::Tree(call) => calls::line(call, &player.play(call)),
+    }
 }
 
 fn read_line(row_length: u16, list: &[u8]) -> String {
@@ -137,18 +163,18 @@ mod tests {
     fn lines() {
         let empty = vec![2, 0, 8, 0, 0, 0, 0, 0];
         assert_eq!(
-            answer_line(&Case::read(2, empty)),
+            answer_lines(&[Case::read(2, empty)]),
             "0 0 0 8 1 0 0 65535 65534\n"
         );
-        assert_eq!(answer_line(&Case::read(0, vec![])), "1 0 0 0 0 0 0\n");
+        assert_eq!(answer_lines(&[Case::read(0, vec![])]), "1 0 0 0 0 0 0\n");
         let zeros = "0".repeat(136);
         assert_eq!(
-            answer_line(&Case::Identity(vec![])),
+            answer_lines(&[Case::Identity(vec![])]),
             format!("6 0 {zeros}\n")
         );
         let owner = vec![1, 1, 0, 0, 0, 0, 0, 3, 0, 0, 0, 0];
         assert_eq!(
-            answer_line(&Case::Identity(owner)),
+            answer_lines(&[Case::Identity(owner)]),
             format!("1 12 0101000000000003{}\n", "0".repeat(120))
         );
     }

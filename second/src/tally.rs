@@ -6,6 +6,7 @@ use crate::computing::{self, Request};
 use crate::identity;
 use crate::reading;
 use crate::records::{Case, fresh_room, fresh_row};
+use crate::tree::{Call, Player};
 
 #[derive(Default)]
 pub struct Tally {
@@ -15,8 +16,9 @@ pub struct Tally {
 impl Tally {
     pub fn of(cases: &[Case]) -> Tally {
         let mut tally = Tally::default();
+        let mut player = Player::default();
         for case in cases {
-            tally.add(label(case));
+            tally.add(label(case, &mut player));
         }
         tally
     }
@@ -37,7 +39,7 @@ impl Tally {
     }
 }
 
-fn label(case: &Case) -> String {
+fn label(case: &Case, player: &mut Player) -> String {
     match case {
         Case::Identity(bytes) => format!("identity {}", identity::classify(bytes)),
         Case::Read { row_length, list } => {
@@ -50,6 +52,20 @@ fn label(case: &Case) -> String {
             }
         }
         Case::Compute { request, room } => compute_label(request, *room),
+        Case::Tree(call) => tree_label(call, player),
+    }
+}
+
+fn tree_label(call: &Call, player: &mut Player) -> String {
+    let outcome = player.play(call);
+    let name = call.name();
+    match outcome.result() {
+        None => format!("tree {name}"),
+        Some(Ok(_)) => format!("tree {name} 0"),
+        Some(Err(refused)) => {
+            let number = refused.answer().number;
+            format!("tree {name} {number}  {}", refused.name())
+        }
     }
 }
 

@@ -15,7 +15,7 @@ use Rattle.list.specs.Good.{Whole, Listed, Every}
 use Rattle.list.specs.declared.lists.Reading.the-variants.{Done}
 use Rattle.list.proofs.Tests.{both-true, true-or, eq-or}
 use Rattle.list.proofs.Told.{reads}
-use Rattle.list.proofs.Parts.{Rendered, rendered}
+use Rattle.list.proofs.Parts.{Rendered, rendered, length-render}
 use Rattle.list.proofs.Revisions.{rev-known}
 use Rattle.inherit.specs.declared.Settings.{Settings}
 use Rattle.inherit.specs.declared.Mapping.{Mapping}
@@ -71,19 +71,31 @@ pub record Told (room : ℕ) (r : Result) (l n : ℕ) : Type 0 where
   pub is : r ≡ some entries control
   pub size : l ≡ sizeFor entries
   pub count : n ≡ length entries
+  pub fitting : sizeFor entries ≤ room
   pub most : sizeFor entries ≤ 65532
 
 told-fits : (b : Bool) (room : ℕ) (es : List (List ℕ)) (k l n j : ℕ) → fits room es ≡ b
     → cond b (Present (sizeFor es) (length es) k) (Refused 8 0 0) ≡ Present l n j → Told room (some es k) l n
 told-fits true room es k l n j e h =
     let f = both-true (leb (sizeFor es) room) (leb (sizeFor es) 65532) e in
-    record { entries = es; control = k; is = refl; size = cc; count = cc; most = leb-true (sizeFor es) 65532 (f .1) }
+    record { entries = es; control = k; is = refl; size = cc; count = cc; fitting = leb-true (sizeFor es) room (f .0); most = leb-true (sizeFor es) 65532 (f .1) }
 told-fits false room es k l n j e h = let z : _≡_ {A = ℕ} 0 1 = cc in absurd (omega arith)
 
 told-room : (room : ℕ) (r : Result) (l n j : ℕ) → withRoom room r ≡ Present l n j → Told room r l n
 unfolding withRoom
 told-room room none l n j h = let z : _≡_ {A = ℕ} 0 1 = cc in absurd (omega arith)
 told-room room (some es k) l n j h = told-fits (fits room es) room es k l n j refl h
+
+-- its bytes are as many as it says, and there is room for them
+pub present-fits : (s : Settings) (g : Given) (types : List ℕ) (p c d : Optional) (room l n k : ℕ) → computeOf s g types p c d room ≡ Present l n k
+    → (l ≡ length (bytesFor (resultOf access s g p c d))) × (l ≤ room)
+unfolding bytesFor
+present-fits s g types p c d room l n k h =
+    let v = passed s g types p c d room l n k h in
+    let t = told-room room (resultOf access s g p c d) l n k (sym (passed-room s g types p c d room v) ∙ h) in
+    let e : length (bytesFor (resultOf access s g p c d)) ≡ sizeFor (t .entries) =
+    ap (λ (r : Result). length (bytesFor r)) (t .is) ∙ length-render (revFor (t .entries)) (t .entries) in
+    (t .size ∙ sym e, omega (arith, t .size, t .fitting))
 
 by-plan : (b : Bool) (xs es : List (List ℕ)) (j k : ℕ) → cond b none (some xs j) ≡ some es k → es ≡ xs
 by-plan true xs es j k h = let z : _≡_ {A = ℕ} 0 1 = cc in absurd (omega arith)

@@ -1,5 +1,6 @@
 pub mod Little
 pub mod Writes
+pub mod Places
 pub mod Tests
 pub mod Sids
 pub mod Cases

@@ -5,7 +5,7 @@ use Prim.Native.Nat.{ℕ, zero, suc, _+_, _*_, _/_, _%_, _^_, _<_, _≤_}
 use native.Mathlib.Nat.{suc-add, zero-add, add-zero, mul-zero, mul-assoc, mul-left-comm, mul-comm, one-mul, pow-suc, le-of-suc-le-suc, not-suc-le-zero}
 use native.Mathlib.Nat.{mod-add-div, mod-eq-of-lt, div-eq-of-lt, div-lt-iff-lt-mul, add-mul-div-left, add-mul-mod-self-left}
 use native.Mathlib.Omega.{arith}
-use lib.ListN.{length, getD, drop, take, length-drop}
+use lib.ListN.{length, getD, drop, take, length-drop, drop-of-length-le}
 use lib.Seq.{getD-drop, drop-drop, drop-nil, drop-append-le}
 use Rattle.list.specs.Bytes.{Bytes, le, spell}
 
@@ -13,6 +13,10 @@ pub le-nil : (k : ℕ) → le k [] ≡ 0
 unfolding le
 le-nil zero = refl
 le-nil (suc k) = refl
+
+-- past the end there is nothing
+pub le-past : (k : ℕ) (s : List ℕ) (at : ℕ) → length s ≤ at → le k (drop at s) ≡ 0
+le-past k s at h = rw (drop-of-length-le s h) (le-nil k)
 
 -- one byte, and the rest
 pub le-suc : (k : ℕ) (s : List ℕ) → le (suc k) s ≡ getD s 0 0 + 256 * le k (drop 1 s)

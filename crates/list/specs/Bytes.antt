@@ -27,6 +27,10 @@ sameBytes [] (b ∷ bs) = false
 sameBytes (a ∷ r) [] = false
 sameBytes (a ∷ r) (b ∷ bs) = eqb a b && sameBytes r bs
 
+-- the n bytes at `at`, or as many of them as there are
+unfoldable pub part : ℕ → ℕ → List ℕ → List ℕ
+part at n s = take n (drop at s)
+
 -- d after w was written on its front: the rest stays as it was
 abbrev pub front : List ℕ → List ℕ → List ℕ
 front w d = w ++ drop (length w) d
@@ -34,6 +38,10 @@ front w d = w ++ drop (length w) d
 -- d after as much of s as there is room for was written on its front
 unfoldable pub putOn : List ℕ → List ℕ → List ℕ
 putOn s d = front (take (length d) s) d
+
+-- d with b at `at`
+unfoldable pub putAt : ℕ → List ℕ → List ℕ → List ℕ
+putAt at b d = take at d ++ (b ++ drop (at + length b) d)
 
 -- the sixteen bytes of a GUID at `at`; zeros where s does not reach so far
 unfoldable pub guidAt : List ℕ → ℕ → List ℕ

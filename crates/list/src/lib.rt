@@ -17,4 +17,8 @@ pub use identities::same_guid;
 pub use lists::Reading;
 pub use lists::check;
 pub use lists::read;
+pub use numbers::byte_in;
+pub use numbers::half_in;
+pub use numbers::part_of;
 pub use numbers::put;
+pub use numbers::word_in;

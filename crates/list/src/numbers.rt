@@ -1,8 +1,8 @@
 // Little-endian numbers, and bytes put on the front of a buffer.
 ghost use mathlib.Core.Path.{_≡_};
 ghost use Prim.Native.Nat.{_+_, _≤_, min};
-ghost use lib.ListN.{length, drop};
-ghost use Rattle.list.specs.Bytes.{le, putOn};
+ghost use lib.ListN.{length, drop, getD};
+ghost use Rattle.list.specs.Bytes.{le, part, putOn};
 
 // The 16-bit number at `at`.
 pub(crate) fn half_at(s: &[u8], at: usize) -> u16
@@ -36,4 +36,44 @@ pub fn put(to: &mut [u8], from: &[u8])
         to[i] = from[i];
         i += 1;
     }
+}
+
+// The byte at `at`, 0 where there is none.
+pub fn byte_in(s: &[u8], at: usize) -> u8
+    ensures { λ r. ⌜ r ≡ getD (now (s .entry)) at 0 ⌝ }
+{
+    if at < s.len() {
+        return s[at];
+    }
+    0
+}
+
+// The 16-bit number at `at`; bytes that are not there count as 0.
+pub fn half_in(s: &[u8], at: usize) -> u16
+    ensures { λ r. ⌜ r ≡ le 2 (drop at (now (s .entry))) ⌝ }
+{
+    if at < s.len() {
+        return (s[at] as u16) + 256 * (byte_in(s, at + 1) as u16);
+    }
+    0
+}
+
+// The 32-bit number at `at`; bytes that are not there count as 0.
+pub fn word_in(s: &[u8], at: usize) -> u32
+    ensures { λ r. ⌜ r ≡ le 4 (drop at (now (s .entry))) ⌝ }
+{
+    if at < s.len() {
+        let high = least(at + 2, s.len());
+        return (half_in(s, at) as u32) + 65536 * (half_in(s, high) as u32);
+    }
+    0
+}
+
+// The n bytes at `at`, or as many of them as there are.
+pub fn part_of(s: &[u8], at: usize, n: usize) -> &[u8]
+    ensures { λ r. ⌜ now r ≡ part at n (now (s .entry)) ⌝ }
+{
+    let from = least(at, s.len());
+    let long = least(n, s.len() - from);
+    &s[from..from + long]
 }

@@ -4,6 +4,7 @@ pub mod build;
 pub mod inherit;
 pub mod list;
 pub mod spoil;
+pub mod tree;
 
 use std::collections::HashSet;
 

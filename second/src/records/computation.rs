@@ -123,7 +123,7 @@ fn adler_sum(bytes: &[u8]) -> [u32; 2] {
 #[cfg(test)]
 mod tests {
     use super::*;
-    use crate::records::{answer_line, decode_all, encode_all};
+    use crate::records::{answer_lines, decode_all, encode_all};
 
     fn request() -> Request {
         Request {
@@ -168,14 +168,14 @@ mod tests {
             request: request(),
             room,
         };
-        assert_eq!(answer_line(&case(0)), "1 1 0 0 0 0 0 \n");
-        assert_eq!(answer_line(&case(3)), "1 1 0 0 0 0 0 0b3055\n");
-        let shown = answer_line(&case(1_024));
+        assert_eq!(answer_lines(&[case(0)]), "1 1 0 0 0 0 0 \n");
+        assert_eq!(answer_lines(&[case(3)]), "1 1 0 0 0 0 0 0b3055\n");
+        let shown = answer_lines(&[case(1_024)]);
         assert_eq!(shown.len(), "1 1 0 0 0 0 0 \n".len() + 2 * 1_024);
         // Every 256 bytes of the room hold each value once. The first 1,024
         // sum to 4 * 32,640, and byte 1,024 is 11 again.
         let a = (1 + 4 * 32_640 + 11) % 65_521;
-        assert!(answer_line(&case(1_025)).starts_with(&format!("1 1 0 0 0 0 0 {a} ")));
+        assert!(answer_lines(&[case(1_025)]).starts_with(&format!("1 1 0 0 0 0 0 {a} ")));
         assert_eq!(adler_sum(b"Wikipedia"), [0x0398, 0x11E6]);
     }
 }

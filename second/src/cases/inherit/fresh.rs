@@ -59,7 +59,7 @@ pub fn request(random: &mut Random, most: usize) -> Request {
 }
 
 /// Two that differ in one bit, and at times one of zeros.
-fn related_guids(random: &mut Random) -> Vec<Guid> {
+pub fn related_guids(random: &mut Random) -> Vec<Guid> {
     let mut guids: Vec<Guid> = (0..4).map(|_| random_guid(random)).collect();
     let mut near = guids[0];
     near[random.below(16)] ^= 1 << random.below(8);
@@ -144,7 +144,7 @@ fn list(random: &mut Random, plans: &[EntryPlan]) -> Vec<u8> {
     }
 }
 
-fn not_looked_at(random: &mut Random, list: Vec<u8>) -> Vec<u8> {
+pub fn not_looked_at(random: &mut Random, list: Vec<u8>) -> Vec<u8> {
     match random.below(3) {
         0 => list,
         1 => Vec::new(),
@@ -156,7 +156,7 @@ fn not_looked_at(random: &mut Random, list: Vec<u8>) -> Vec<u8> {
 }
 
 /// Some bring generic bits in.
-fn mapping(random: &mut Random) -> [u32; 4] {
+pub fn mapping(random: &mut Random) -> [u32; 4] {
     match random.below(4) {
         0 => DOCUMENT_MAPPING,
         1 => [0; 4].map(|_: u32| random.word()),
@@ -165,7 +165,7 @@ fn mapping(random: &mut Random) -> [u32; 4] {
     }
 }
 
-fn ordinary_sid(random: &mut Random) -> Vec<u8> {
+pub fn ordinary_sid(random: &mut Random) -> Vec<u8> {
     let numbers = match random.below(3) {
         0 => random.below(MOST_NUMBERS + 1),
         _ => random.below(4),

@@ -4,14 +4,14 @@ mod branches;
 mod fault_orders;
 mod flags;
 pub mod fresh;
-mod identities;
+pub(super) mod identities;
 mod large;
 mod masks;
 mod object_types;
 mod placeholders;
-mod refusals;
+pub(super) mod refusals;
 mod rooms;
-mod ways;
+pub(super) mod ways;
 pub mod worked;
 
 use super::joined;

@@ -1,0 +1,5 @@
+pub mod Tab
+pub mod Histories
+pub mod Lawful
+pub mod Paths
+pub mod Works

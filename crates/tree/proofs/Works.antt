@@ -1,0 +1,122 @@
+-- Working one object's list out, and those of all, as the code goes about it.
+use mathlib.Core.Path.{_≡_, refl, sym, ap, _∙_}
+use mathlib.Core.Bool.{Bool, true, false}
+use mathlib.Core.List.{List, []}
+use mathlib.Core.Option.{Option, none, some}
+use Prim.Native.Nat.{ℕ, zero, suc, _+_, _-_, _≤_, _<_}
+use native.Mathlib.Nat.{add-zero, add-suc}
+use native.Mathlib.Numerals.{add-one}
+use native.Mathlib.Omega.{arith}
+use lib.ListN.{length, drop}
+use lib.Seq.{take-at}
+use lib.Dec.{eqb, ltb}
+use borrow.Author.Tests.{lt-ltb, le-ltb}
+use Rattle.list.specs.Bytes.{part, putAt}
+use Rattle.inherit.specs.declared.Settings.{Settings}
+use Rattle.inherit.specs.declared.Computed.{Computed}
+use Rattle.inherit.specs.declared.Computed.the-variants.{Present, Absent, Refused}
+use Rattle.inherit.specs.Given.{Optional, absent, present, lent}
+use Rattle.inherit.specs.Compute.{bytesFor, outBy}
+use Rattle.inherit.proofs.Theorems.{present-fits}
+use Rattle.tree.specs.Held.{hasList, bytesIn, held, slotFor, kindOf, markOf, typeOf, ownSlot, ownList, parentOf}
+use Rattle.tree.specs.Room.{slotAt, settings, defaultSlot, defaultOf, own, slot}
+use Rattle.tree.specs.Work.{given, settingsIn, givenIn, answerIn, resultIn, taken, computed, above, laid, rework, reworked}
+use Rattle.tree.specs.History.{bind, isSome, orElse}
+
+pub given-lent : (b : Bool) (s : List ℕ) → given (lent b s) ≡ b
+given-lent true s = refl
+given-lent false s = refl
+
+-- the settings as the code finds them in slots and own data
+pub settings-found : (e p b : List ℕ) (x y z k m : Bool) → x ≡ hasList p → y ≡ hasList (ownSlot b) → z ≡ hasList (defaultSlot e) → k ≡ eqb (kindOf b) 1 → m ≡ eqb (markOf b) 1
+    → record { parent = x; creator = y; default = z; container = k; auto = true; defaulted = false; protect = m } ≡ settingsIn e (held p) b
+settings-found e p b x y z k m ex ey ez ek em =
+    rw (ex, ey, ez, ek, em, given-lent (hasList p) (bytesIn p), given-lent (hasList (ownSlot b)) (bytesIn (ownSlot b)), given-lent (hasList (defaultSlot e)) (bytesIn (defaultSlot e)))
+    refl
+
+-- the parent's slot, or nothing
+pub above-slot : (i p : ℕ) (r s : List ℕ) → p ≡ parentOf (own i r) → p < i → s ≡ slot p r → held s ≡ above i r
+unfolding above
+above-slot i p r s e h f = rw (f, ← e, lt-ltb p i h) refl
+
+pub above-none : (i p : ℕ) (r : List ℕ) → p ≡ parentOf (own i r) → i ≤ p → held [] ≡ above i r
+unfolding above
+above-none i p r e h = rw (← e, le-ltb p i h) refl
+
+-- one object, by what the computation answers
+module _ (i : ℕ) (w out out₁ : List ℕ) (x : Optional) (q : x ≡ above i w) (room : length out ≡ 1024) where
+
+  pub rework-present : (l n k : ℕ) (w₁ : List ℕ) → answerIn (settings w) x (own i w) (length out) ≡ Present l n k
+      → out₁ ≡ outBy (Present l n k) (bytesFor (resultIn (settings w) x (own i w))) out
+      → w₁ ≡ putAt (slotAt i) (slotFor (present (part 0 l out₁))) w
+      → (true ≡ isSome (rework i w)) × (w₁ ≡ orElse w (rework i w))
+  unfolding rework computed laid isSome orElse outBy part
+  rework-present l n k w₁ h f g =
+      let a : answerIn (settings w) x (own i w) 1024 ≡ Present l n k = rw (← room) h in
+      let z = present-fits (settingsIn (settings w) x (own i w)) (givenIn (settings w) x (own i w)) (typeOf (own i w)) x (ownList (own i w)) (defaultOf (settings w)) 1024 l n k a in
+      let bytes = bytesFor (resultIn (settings w) x (own i w)) in
+      let t : part 0 l out₁ ≡ bytes = rw f (take-at bytes (drop (length bytes) out) l (sym (z .0))) in
+      rw (← q, a) (refl, g ∙ ap (λ (y : List ℕ). putAt (slotAt i) (slotFor (present y)) w) t)
+
+  pub rework-absent : (w₁ : List ℕ) → answerIn (settings w) x (own i w) (length out) ≡ Absent
+      → w₁ ≡ putAt (slotAt i) (slotFor absent) w → (true ≡ isSome (rework i w)) × (w₁ ≡ orElse w (rework i w))
+  unfolding rework computed laid isSome orElse
+  rework-absent w₁ h g =
+      let a : answerIn (settings w) x (own i w) 1024 ≡ Absent = rw (← room) h in
+      rw (← q, a) (refl, g)
+
+  pub rework-refused : (l n k : ℕ) → answerIn (settings w) x (own i w) (length out) ≡ Refused l n k
+      → (false ≡ isSome (rework i w)) × (w ≡ orElse w (rework i w))
+  unfolding rework computed laid isSome orElse
+  rework-refused l n k h =
+      let a : answerIn (settings w) x (own i w) 1024 ≡ Refused l n k = rw (← room) h in
+      rw (← q, a) (refl, refl)
+
+-- ---- all objects
+
+pub chosen : (r : List ℕ) (o : Option (List ℕ)) (r₁ : List ℕ) → true ≡ isSome o → r₁ ≡ orElse r o → o ≡ some r₁
+unfolding isSome orElse
+chosen r none r₁ t f = let z : _≡_ {A = ℕ} 0 1 = cc in absurd (omega arith)
+chosen r (some x) r₁ t f = ap some (sym f)
+
+pub is-none : {A : Type 0} (o : Option A) → false ≡ isSome o → o ≡ none
+unfolding isSome
+is-none none t = refl
+is-none (some x) t = let z : _≡_ {A = ℕ} 0 1 = cc in absurd (omega arith)
+
+-- a refusal stays one
+refused-more : (n k : ℕ) (r : List ℕ) → reworked n r ≡ none → reworked (n + k) r ≡ none
+unfolding reworked bind
+refused-more n zero r e = rw add-zero e
+refused-more n (suc k) r e = rw add-suc (rw (refused-more n k r e) refl)
+
+-- a turn of the loop
+pub turn-some : (i : ℕ) (r₀ r r₁ : List ℕ) → reworked i r₀ ≡ some r → true ≡ isSome (rework i r) → r₁ ≡ orElse r (rework i r) → reworked (i + 1) r₀ ≡ some r₁
+unfolding reworked bind
+turn-some i r₀ r r₁ e t f = rw (add-one, e) (chosen r (rework i r) r₁ t f)
+
+-- what a function answers whose definition may be none: whether it is there, and then what it leaves
+abbrev pub Gives : Bool → Option (List ℕ) → List ℕ → Type 0
+Gives ok o w = (ok ≡ isSome o) × ((ok ≡ true → o ≡ some w))
+
+pub gives-none : (o : Option (List ℕ)) (w : List ℕ) → o ≡ none → Gives false o w
+unfolding isSome
+gives-none o w e = (rw e refl, λ q. let z : _≡_ {A = ℕ} 0 1 = cc in absurd (omega arith))
+
+pub gives-some : (o : Option (List ℕ)) (w : List ℕ) → o ≡ some w → Gives true o w
+unfolding isSome
+gives-some o w e = (rw e refl, λ z. e)
+
+pub turn-none : (n i : ℕ) (r₀ r w : List ℕ) → i < n → reworked i r₀ ≡ some r → false ≡ isSome (rework i r) → Gives false (reworked n r₀) w
+unfolding reworked bind
+turn-none n i r₀ r w h e f =
+    let g : reworked (suc i) r₀ ≡ none = rw e (is-none (rework i r) f) in
+    let k : n ≡ suc i + (n - suc i) = omega arith in
+    gives-none (reworked n r₀) w (rw k (refused-more (suc i) (n - suc i) r₀ g))
+
+pub turns-done : (n i : ℕ) (r₀ r : List ℕ) → i ≡ n → reworked i r₀ ≡ some r → Gives true (reworked n r₀) r
+turns-done n i r₀ r q e = gives-some (reworked n r₀) r (rw (← q) e)
+
+pub none-made : (r : List ℕ) → reworked 0 r ≡ some r
+unfolding reworked
+none-made r = refl

@@ -1,0 +1,194 @@
+-- What each call answers, and what the lent bytes hold afterwards, for any bytes handed in.
+use Prim.Native.Nat.{ℕ, _+_, _-_, _*_, min}
+use mathlib.Core.List.{List, [], _∷_, _++_}
+use mathlib.Core.Bool.{Bool, true, false, cond, _&&_}
+use mathlib.Core.Option.{Option, none, some}
+use lib.ListN.{length, getD, take, set}
+use lib.Dec.{eqb, leb, ltb}
+use Rattle.list.specs.Bytes.{part, putAt, front}
+use Rattle.list.specs.Entry.{access}
+use Rattle.list.specs.List.{checkOf, countOf}
+use Rattle.list.specs.Answer.{Values, done, refused}
+use Rattle.list.specs.declared.lists.Reading.{Reading}
+use Rattle.list.specs.declared.lists.Reading.the-variants.{Done as Read, Refused as Unread}
+use Rattle.inherit.specs.declared.Mapping.{Mapping}
+use Rattle.inherit.specs.Given.{Optional, absent, present}
+use Rattle.inherit.specs.Compute.{ordinary, ruleOk}
+use Rattle.tree.specs.declared.Answer.{Answer}
+use Rattle.tree.specs.declared.Answer.the-variants.{Done, Refused}
+use Rattle.tree.specs.Held.{New, held, slotFor, idFor, blockFor, yes, ownerOf, groupOf, ownList}
+use Rattle.tree.specs.Room.{limit, depth, objects, kept, ownAt, stepsAt, roomFor, limitsOk, own, slot, step, tagOf, numberOf, savedIn, area, emptyRoom}
+use Rattle.tree.specs.Formed.{placed, formed}
+use Rattle.tree.specs.Work.{reworked}
+
+-- document 01's number and values for each case
+abbrev pub valuesOf : Answer → Values
+valuesOf (Done len is n) = done len (yes is) n 0
+valuesOf (Refused k which at) = refused k which at
+
+pub record Outcome : Type 0 where
+  pub answer : Answer
+  pub bytes : List ℕ
+
+-- a refusal leaves the bytes as they were
+abbrev pub refuse : ℕ → ℕ → ℕ → List ℕ → Outcome
+refuse k which at r = record { answer = Refused k which at; bytes = r }
+
+-- go on where the test holds, else refuse by the number
+unfoldable pub need : Bool → ℕ → List ℕ → Outcome → Outcome
+need true k r rest = rest
+need false k r rest = refuse k 0 0 r
+
+-- a list that is present reads as done, or its refusal concerns list `which`
+unfoldable pub onReading : Reading → ℕ → List ℕ → Outcome → Outcome
+onReading (Read len n) which r rest = rest
+onReading (Unread k at) which r rest = refuse k which at r
+
+unfoldable pub readable : Optional → ℕ → List ℕ → Outcome → Outcome
+readable absent which r rest = rest
+readable (present s) which r rest = onReading (checkOf access s) which r rest
+
+-- at most 1,024 bytes
+unfoldable pub short : Optional → Bool
+short absent = true
+short (present s) = leb (length s) 1024
+
+-- a list, possibly absent, in an answer
+unfoldable pub told : Optional → Answer
+told absent = Done 0 false 0
+told (present s) = Done (length s) true (countOf s)
+
+-- ---- the steps
+
+-- place for a step in front, the oldest forgotten where there is no more room; and the latest step taken off
+unfoldable pub shifted : List ℕ → List ℕ
+shifted w = set (putAt (stepsAt (limit w) + 1186) (part (stepsAt (limit w)) ((depth w - 1) * 1186) w) w) 3 (min (depth w) (kept w + 1))
+
+unfoldable pub pushed : List ℕ → List ℕ → List ℕ
+pushed u w = cond (ltb 0 (depth w)) (putAt (stepsAt (limit w)) u (shifted w)) w
+
+unfoldable pub popped : List ℕ → List ℕ
+popped w = set (putAt (stepsAt (limit w)) (part (stepsAt (limit w) + 1186) ((depth w - 1) * 1186) w) w) 3 (kept w - 1)
+
+-- ---- changes and undo, on the room's area: none where a list would pass 1,024 bytes
+
+-- b put at `at`, n objects stand, and every list is worked out again
+unfoldable pub settled : ℕ → List ℕ → ℕ → List ℕ → Option (List ℕ)
+settled at b n w = reworked n (set (putAt at b w) 2 n)
+
+-- a change of object i: a step is kept with its own data as it stood, b is put at place `at` of it
+unfoldable pub changed : ℕ → ℕ → ℕ → List ℕ → ℕ → List ℕ → Option (List ℕ)
+changed tag i at b n w = settled (ownAt i + at) b n (pushed (tag ∷ i ∷ own i w) w)
+
+-- undo: what the latest step holds is put back; the object of an add is gone
+abbrev pub latest : List ℕ → List ℕ
+latest w = step (limit w) 0 w
+
+abbrev pub left : List ℕ → ℕ
+left w = cond (eqb (tagOf (latest w)) 1) (objects w - 1) (objects w)
+
+unfoldable pub undone : List ℕ → Option (List ℕ)
+undone w = settled (ownAt (numberOf (latest w))) (savedIn (latest w)) (left w) (popped w)
+
+-- the end of a change of object i: its computed list; of an undo: zeros
+unfoldable pub finish : ℕ → List ℕ → Option (List ℕ) → Outcome
+finish i r none = refuse 8 0 0 r
+finish i r (some w) = record { answer = told (held (slot i w)); bytes = front w r }
+
+unfoldable pub finishUndo : List ℕ → Option (List ℕ) → Outcome
+finishUndo r none = refuse 8 0 0 r
+finishUndo r (some w) = record { answer = Done 0 false 0; bytes = front w r }
+
+-- ---- the calls
+
+-- "no parent" in a call
+abbrev pub nobody : ℕ
+nobody = 0xFFFFFFFF
+
+-- start: 12, then the default list by 1 to 5, then 8
+unfoldable pub startTo : ℕ → ℕ → ℕ → Mapping → Optional → List ℕ → Outcome
+startTo n s rule m default r =
+    need (limitsOk n s) 12 r
+    (need (ruleOk rule) 12 r
+    (need (leb (roomFor n s) (length r)) 12 r
+    (readable default 3 r
+    (need (short default) 8 r
+    (record { answer = Done 0 false 0; bytes = front (emptyRoom n s rule m default) r })))))
+
+-- add: 13, 9, 10, 1 to 5, 6, 8
+unfoldable pub addTo : New → List ℕ → Outcome
+addTo new r =
+    need (formed r) 13 r
+    (need (placed nobody (λ j. own j r) (objects r) (new .parent)) 9 r
+    (need (ltb (objects r) (limit r)) 10 r
+    (readable (new .list) 2 r
+    (need (ordinary (new .owner)) 6 r
+    (need (ordinary (new .group)) 6 r
+    (need (short (new .list)) 8 r
+    (finish (objects r) r (changed 1 (objects r) 0 (blockFor new) (objects r + 1) (area r)))))))))
+
+-- what a change alters in an object's own data: its list, its mark, or its owner and group
+pub data Edit : Type 0 where
+  list : Optional → Edit
+  mark : Bool → Edit
+  owners : List ℕ → List ℕ → Edit
+
+-- where the altered bytes lie in own data, and what they are
+unfoldable pub editAt : Edit → ℕ
+editAt (list o) = 157
+editAt (mark m) = 2
+editAt (owners o g) = 19
+
+unfoldable pub editBytes : Edit → List ℕ
+editBytes (list o) = slotFor o
+editBytes (mark m) = yes m ∷ []
+editBytes (owners o g) = idFor o ++ idFor g
+
+-- the tests of what is given: 1 to 5, 6, 8
+unfoldable pub tested : Edit → List ℕ → Outcome → Outcome
+tested (list o) r rest = readable o 2 r (need (short o) 8 r rest)
+tested (mark m) r rest = rest
+tested (owners o g) r rest = need (ordinary o) 6 r (need (ordinary g) 6 r rest)
+
+-- any other change: 13, 9, 1 to 5, 6, 8
+unfoldable pub alterTo : ℕ → Edit → List ℕ → Outcome
+alterTo i e r =
+    need (formed r) 13 r
+    (need (ltb i (objects r)) 9 r
+    (tested e r
+    (finish i r (changed 2 i (editAt e) (editBytes e) (objects r) (area r)))))
+
+-- undo: 13, 11, 8
+unfoldable pub undoTo : List ℕ → Outcome
+undoTo r = need (formed r) 13 r (need (ltb 0 (kept r)) 11 r (finishUndo r (undone (area r))))
+
+-- ---- reading back: 13, 9, 8
+
+unfoldable pub bytesIf : Optional → List ℕ
+bytesIf absent = []
+bytesIf (present s) = s
+
+-- bytes on the front of what is lent for them
+unfoldable pub copied : Answer → List ℕ → List ℕ → Outcome
+copied a b out = need (leb (length b) (length out)) 8 out (record { answer = a; bytes = front b out })
+
+unfoldable pub readTo : List ℕ → ℕ → List ℕ → Outcome → Outcome
+readTo r i out rest = need (formed r) 13 out (need (ltb i (objects r)) 9 out rest)
+
+-- a computed list, and an own list
+unfoldable pub listTo : ℕ → List ℕ → List ℕ → Outcome
+listTo i r out = readTo r i out (copied (told (held (slot i r))) (bytesIf (held (slot i r))) out)
+
+unfoldable pub ownTo : ℕ → List ℕ → List ℕ → Outcome
+ownTo i r out = readTo r i out (copied (told (ownList (own i r))) (bytesIf (ownList (own i r))) out)
+
+-- own data but for the list: parent, kind, mark, type, owner and group, each with its length in front
+unfoldable pub dataOf : List ℕ → List ℕ
+dataOf b = part 0 19 b ++ ((length (ownerOf b) ∷ ownerOf b) ++ (length (groupOf b) ∷ groupOf b))
+
+unfoldable pub dataTo : ℕ → List ℕ → List ℕ → Outcome
+dataTo i r out = readTo r i out (copied (Done (length (dataOf (own i r))) true 0) (dataOf (own i r)) out)
+
+-- how many objects stand and how many steps are kept
+unfoldable pub countsTo : List ℕ → Answer
+countsTo r = cond (formed r) (Done (objects r) true (kept r)) (Refused 13 0 0)

@@ -1,0 +1,108 @@
+-- What the parts of a room hold (docs/ROOM.md): a slot, an identity, own data of an object.
+use Prim.Native.Nat.{ℕ, _+_, _-_, min}
+use mathlib.Core.List.{List, [], _∷_, _++_}
+use mathlib.Core.Bool.{Bool, true, false, cond, _&&_, _||_}
+use lib.ListN.{length, getD, drop, replicate}
+use lib.Dec.{eqb, leb}
+use Rattle.list.specs.Bytes.{le, spell, part, sameBytes, guidAt}
+use Rattle.list.specs.Entry.{access}
+use Rattle.list.specs.List.{checkOf}
+use Rattle.list.specs.declared.lists.Reading.{Reading}
+use Rattle.list.specs.declared.lists.Reading.the-variants.{Done, Refused}
+use Rattle.inherit.specs.Given.{Optional, absent, present, lent}
+use Rattle.inherit.specs.Compute.{ordinary}
+
+-- ---- a slot, 1,027 bytes: 1 present or 0 absent, 16-bit length, 1,024 bytes with the list
+
+abbrev pub hasList : List ℕ → Bool
+hasList s = eqb (getD s 0 0) 1
+
+unfoldable pub bytesIn : List ℕ → List ℕ
+bytesIn s = part 0 (le 2 (drop 1 s)) (part 3 1024 s)
+
+-- the list that a slot holds, possibly absent
+abbrev pub held : List ℕ → Optional
+held s = lent (hasList s) (bytesIn s)
+
+-- the slot of a list of at most 1,024 bytes, or of none
+unfoldable pub slotFor : Optional → List ℕ
+slotFor absent = replicate 1027 0
+slotFor (present s) = 1 ∷ (spell 2 (length s) ++ (s ++ replicate (1024 - length s) 0))
+
+-- a list reads as done
+abbrev pub isDone : Reading → Bool
+isDone (Done len n) = true
+isDone (Refused k at) = false
+
+unfoldable pub slotOk : List ℕ → Bool
+slotOk s = eqb (getD s 0 0) 0 || (eqb (getD s 0 0) 1 && (leb (le 2 (drop 1 s)) 1024 && isDone (checkOf access (bytesIn s))))
+
+-- ---- an identity, 69 bytes: its length, 68 bytes with it
+
+unfoldable pub idIn : List ℕ → List ℕ
+idIn f = part 0 (getD f 0 0) (part 1 68 f)
+
+unfoldable pub idFor : List ℕ → List ℕ
+idFor s = length s ∷ (s ++ replicate (68 - length s) 0)
+
+-- exactly one SID, and no placeholder
+unfoldable pub idOk : List ℕ → Bool
+idOk f = leb (getD f 0 0) 68 && ordinary (idIn f)
+
+-- ---- own data of an object, 1,184 bytes: parent (255 none), kind, mark, type, owner, group, own list
+
+abbrev pub parentOf : List ℕ → ℕ
+parentOf b = getD b 0 0
+
+abbrev pub kindOf : List ℕ → ℕ
+kindOf b = getD b 1 0
+
+abbrev pub markOf : List ℕ → ℕ
+markOf b = getD b 2 0
+
+abbrev pub typeOf : List ℕ → List ℕ
+typeOf b = guidAt b 3
+
+abbrev pub ownerOf : List ℕ → List ℕ
+ownerOf b = idIn (part 19 69 b)
+
+abbrev pub groupOf : List ℕ → List ℕ
+groupOf b = idIn (part 88 69 b)
+
+abbrev pub ownSlot : List ℕ → List ℕ
+ownSlot b = part 157 1027 b
+
+abbrev pub ownList : List ℕ → Optional
+ownList b = held (ownSlot b)
+
+-- good by itself
+unfoldable pub blockOk : List ℕ → Bool
+blockOk b =
+    leb (kindOf b) 1
+    && (leb (markOf b) 1
+    && (idOk (part 19 69 b)
+    && (idOk (part 88 69 b)
+    && slotOk (ownSlot b))))
+
+-- two of them agree in what no change alters: parent, kind and type
+unfoldable pub alike : List ℕ → List ℕ → Bool
+alike a b = eqb (parentOf a) (parentOf b) && (eqb (kindOf a) (kindOf b) && sameBytes (typeOf a) (typeOf b))
+
+-- what a new object is given
+pub record New : Type 0 where
+  pub parent : ℕ
+  pub container : Bool
+  pub mark : Bool
+  pub type : List ℕ
+  pub owner : List ℕ
+  pub group : List ℕ
+  pub list : Optional
+
+abbrev pub yes : Bool → ℕ
+yes b = cond b 1 0
+
+-- its own data
+unfoldable pub blockFor : New → List ℕ
+blockFor n =
+    (min 255 (n .parent) ∷ yes (n .container) ∷ yes (n .mark) ∷ [])
+    ++ (n .type ++ (idFor (n .owner) ++ (idFor (n .group) ++ slotFor (n .list))))

@@ -1,0 +1,108 @@
+-- The tree as changes to own data, with no room and no order of numbers: what History is asked of.
+use Prim.Native.Nat.{ℕ, zero, suc, _-_}
+use mathlib.Core.List.{List, [], _∷_, _++_}
+use mathlib.Core.Bool.{Bool, true, false, cond, _&&_}
+use mathlib.Core.Option.{Option, none, some}
+use lib.ListN.{length, getD, take, set}
+use lib.Dec.{eqb, leb, ltb}
+use Rattle.list.specs.Bytes.{putAt}
+use Rattle.list.specs.Entry.{access}
+use Rattle.list.specs.List.{checkOf}
+use Rattle.inherit.specs.Given.{Optional, absent, present}
+use Rattle.inherit.specs.Compute.{ordinary}
+use Rattle.tree.specs.Held.{New, isDone, blockFor, parentOf}
+use Rattle.tree.specs.Room.{objects, kept, limit, own, slot, step, tagOf, numberOf, savedIn, settings}
+use Rattle.tree.specs.Formed.{placed}
+use Rattle.tree.specs.Work.{computed}
+use Rattle.tree.specs.Calls.{Edit, list, mark, owners, short, editAt, editBytes, nobody}
+use Rattle.tree.specs.Held.{held}
+use Rattle.tree.specs.History.{Rules, State, bind}
+
+abbrev pub Blocks : Type 0
+Blocks = List (List ℕ)
+
+-- the changes: add, and whatever alters an object's own data
+pub data Change : Type 0 where
+  add : New → Change
+  alter : ℕ → Edit → Change
+
+-- a list that is given, possibly absent, reads as done
+unfoldable pub reads : Optional → Bool
+reads absent = true
+reads (present s) = isDone (checkOf access s)
+
+-- what a change is given is good
+unfoldable pub fine : Edit → Bool
+fine (list o) = reads o && short o
+fine (mark m) = true
+fine (owners o g) = ordinary o && ordinary g
+
+abbrev pub when : {A : Type 0} → Bool → A → Option A
+when true a = some a
+when false a = none
+
+-- own data of all objects after a change, with object limit n
+unfoldable pub change : ℕ → Change → Blocks → Option Blocks
+change n (add new) d =
+    when (placed nobody (λ j. getD d j []) (length d) (new .parent)
+    && (ltb (length d) n
+    && (reads (new .list)
+    && (ordinary (new .owner)
+    && (ordinary (new .group)
+    && short (new .list))))))
+    (d ++ (blockFor new ∷ []))
+change n (alter i e) d = when (ltb i (length d) && fine e) (set d i (putAt (editAt e) (editBytes e) (getD d i [])))
+
+-- what a step puts back: an add takes the last object off, any other change puts the old own data back
+pub data Undo : Type 0 where
+  off : Undo
+  again : ℕ → List ℕ → Undo
+
+unfoldable pub keep : Change → Blocks → Undo
+keep (add new) d = off
+keep (alter i e) d = again i (getD d i [])
+
+unfoldable pub back : Undo → Blocks → Blocks
+back off d = take (length d - 1) d
+back (again i b) d = set d i b
+
+-- object i's list worked out afresh: from its parent's list, and so on up to the root, over at most `more` objects
+unfoldable pub fromRoot : List ℕ → Blocks → ℕ → ℕ → Option Optional
+fromRoot e d zero i = none
+fromRoot e d (suc more) i =
+    bind (cond (eqb (parentOf (getD d i [])) 255) (some absent) (fromRoot e d more (parentOf (getD d i []))))
+    (λ p. computed e p (getD d i []))
+
+-- f 0, f 1 and so on below n, where all of them are there
+unfoldable pub gather : {A : Type 0} → ℕ → (ℕ → Option A) → Option (List A)
+gather zero f = some []
+gather (suc n) f = bind (gather n f) (λ xs. bind (f n) (λ x. some (xs ++ (x ∷ []))))
+
+-- every object's list worked out afresh from the root
+unfoldable pub work : List ℕ → Blocks → Option (List Optional)
+work e d = gather (length d) (fromRoot e d (length d))
+
+-- the rules of a tree with object limit n and the settings e
+unfoldable pub rules : ℕ → List ℕ → Rules Change Blocks (List Optional) Undo
+rules n e = record { empty = []; bare = []; change = change n; work = work e; keep = keep; back = back }
+
+-- ---- the tree that a room shows
+
+unfoldable pub tab : {A : Type 0} → ℕ → (ℕ → A) → List A
+tab zero f = []
+tab (suc n) f = tab n f ++ (f n ∷ [])
+
+-- what a step in the room puts back
+unfoldable pub undoIn : List ℕ → Undo
+undoIn u = cond (eqb (tagOf u) 1) off (again (numberOf u) (savedIn u))
+
+abbrev pub Tree : Type 0
+Tree = State Blocks (List Optional) Undo
+
+unfoldable pub shown : List ℕ → Tree
+shown r =
+    record {
+      own = tab (objects r) (λ i. own i r);
+      lists = tab (objects r) (λ i. held (slot i r));
+      kept = tab (kept r) (λ j. undoIn (step (limit r) j r));
+    }

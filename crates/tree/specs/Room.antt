@@ -1,0 +1,93 @@
+-- Where the parts of a room lie (docs/ROOM.md): four numbers, the settings, the objects, the kept steps.
+use Prim.Native.Nat.{ℕ, zero, suc, _+_, _*_}
+use mathlib.Core.List.{List, [], _∷_, _++_}
+use mathlib.Core.Bool.{Bool, cond, _&&_}
+use lib.ListN.{length, getD, take, drop, replicate}
+use lib.Dec.{eqb, leb}
+use Rattle.list.specs.Bytes.{le, spell, part}
+use Rattle.inherit.specs.Given.{Optional}
+use Rattle.inherit.specs.declared.Mapping.{Mapping}
+use Rattle.tree.specs.Held.{held, slotFor}
+
+-- object limit, step limit, objects that stand, kept steps
+abbrev pub limit : List ℕ → ℕ
+limit r = getD r 0 0
+
+abbrev pub depth : List ℕ → ℕ
+depth r = getD r 1 0
+
+abbrev pub objects : List ℕ → ℕ
+objects r = getD r 2 0
+
+abbrev pub kept : List ℕ → ℕ
+kept r = getD r 3 0
+
+-- own data and computed list of object i; the steps behind n objects
+abbrev pub ownAt : ℕ → ℕ
+ownAt i = 1048 + i * 2211
+
+abbrev pub slotAt : ℕ → ℕ
+slotAt i = 2232 + i * 2211
+
+abbrev pub stepsAt : ℕ → ℕ
+stepsAt n = 1048 + n * 2211
+
+-- the formula: bytes of room for n objects and s steps
+abbrev pub roomFor : ℕ → ℕ → ℕ
+roomFor n s = 1048 + n * 2211 + s * 1186
+
+-- what the public call gives: the formula, 0 where a limit is out of range
+abbrev pub limitsOk : ℕ → ℕ → Bool
+limitsOk n s = leb 1 n && (leb n 64 && leb s 64)
+
+abbrev pub roomOf : ℕ → ℕ → ℕ
+roomOf n s = cond (limitsOk n s) (roomFor n s) 0
+
+-- the settings: rule, mapping, default list
+unfoldable pub settings : List ℕ → List ℕ
+settings r = part 4 1044 r
+
+abbrev pub ruleOf : List ℕ → ℕ
+ruleOf e = getD e 0 0
+
+abbrev pub mappingOf : List ℕ → Mapping
+mappingOf e = record { read = le 4 (drop 1 e); write = le 4 (drop 5 e); execute = le 4 (drop 9 e); all = le 4 (drop 13 e) }
+
+abbrev pub defaultSlot : List ℕ → List ℕ
+defaultSlot e = part 17 1027 e
+
+abbrev pub defaultOf : List ℕ → Optional
+defaultOf e = held (defaultSlot e)
+
+unfoldable pub settingsFor : ℕ → Mapping → Optional → List ℕ
+settingsFor rule m default =
+    (rule ∷ [])
+    ++ (spell 4 (m .read) ++ (spell 4 (m .write) ++ (spell 4 (m .execute) ++ (spell 4 (m .all) ++ slotFor default))))
+
+-- own data and computed list of object i, and step j, the latest first, behind n objects
+unfoldable pub own : ℕ → List ℕ → List ℕ
+own i r = part (ownAt i) 1184 r
+
+unfoldable pub slot : ℕ → List ℕ → List ℕ
+slot i r = part (slotAt i) 1027 r
+
+unfoldable pub step : ℕ → ℕ → List ℕ → List ℕ
+step n j r = part (stepsAt n + j * 1186) 1186 r
+
+-- a step: 1 for an add and 2 for any other change, the object's number, and what undo puts back in the place of its own data
+abbrev pub tagOf : List ℕ → ℕ
+tagOf u = getD u 0 0
+
+abbrev pub numberOf : List ℕ → ℕ
+numberOf u = getD u 1 0
+
+abbrev pub savedIn : List ℕ → List ℕ
+savedIn u = part 2 1184 u
+
+-- the part of a room that its limits take up: no call reads or changes what lies behind it
+abbrev pub area : List ℕ → List ℕ
+area r = take (roomFor (limit r) (depth r)) r
+
+-- an empty tree
+unfoldable pub emptyRoom : ℕ → ℕ → ℕ → Mapping → Optional → List ℕ
+emptyRoom n s rule m default = (n ∷ s ∷ 0 ∷ 0 ∷ []) ++ (settingsFor rule m default ++ replicate (n * 2211 + s * 1186) 0)

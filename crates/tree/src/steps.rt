@@ -1,0 +1,69 @@
+// The kept steps, the latest first: a copy of the room with one more of them, and with one less.
+ghost use mathlib.Core.Path.{_≡_};
+ghost use mathlib.Core.List.{_∷_};
+ghost use Prim.Native.Nat.{_+_, _≤_, _<_};
+ghost use lib.ListN.{length};
+ghost use Rattle.list.specs.Bytes.{putAt};
+ghost use Rattle.tree.specs.Room.{limit, depth, kept, roomFor, own as Room·own, area};
+ghost use Rattle.tree.specs.Formed.{Head};
+ghost use Rattle.tree.specs.Calls.{shifted, pushed, popped};
+use crate::held::number_in;
+use crate::places::own;
+use crate::writes::lay;
+use crate::writes::least;
+use list::part_of;
+
+// The room's area to w, with place for a step in front.
+fn shift(r: &[u8], w: &mut [u8])
+    requires { ⌜ Head (now r) × ((0 < depth (now r)) × (length (now w) ≡ roomFor (limit (now r)) (depth (now r)))) ⌝ }
+    ensures { λ _. ⌜ now (w .exit) ≡ shifted (area (now (r .entry))) ⌝ }
+{
+    let n = number_in(r, 0);
+    let s = number_in(r, 1);
+    let k = number_in(r, 3);
+    let at = 1048 + n * 2211;
+    let room = at + s * 1186;
+    lay(w, 0, part_of(r, 0, room));
+    lay(w, at + 1186, part_of(r, at, (s - 1) * 1186));
+    w[3] = least(s, k + 1) as u8;
+}
+
+// A step at a place.
+fn lay_step(w: &mut [u8], at: usize, tag: u8, i: u8, b: &[u8])
+    requires { ⌜ at + 2 + length (now b) ≤ length (now w) ⌝ }
+    ensures { λ _. ⌜ now (w .exit) ≡ putAt at (tag ∷ i ∷ now (b .entry)) (now (w .entry)) ⌝ }
+{
+    w[at] = tag;
+    w[at + 1] = i;
+    lay(w, at + 2, b);
+}
+
+// The room's area to w, with a step kept for object i.
+pub(crate) fn push(r: &[u8], w: &mut [u8], tag: u8, i: usize)
+    requires { ⌜ Head (now r) × ((length (now w) ≡ roomFor (limit (now r)) (depth (now r))) × (i < limit (now r))) ⌝ }
+    ensures { λ _. ⌜ now (w .exit) ≡ pushed (tag ∷ i ∷ Room·own i (area (now (r .entry)))) (area (now (r .entry))) ⌝ }
+{
+    let n = number_in(r, 0);
+    let at = 1048 + n * 2211;
+    if number_in(r, 1) == 0 {
+        lay(w, 0, part_of(r, 0, at));
+        return;
+    }
+    shift(r, w);
+    lay_step(w, at, tag, i as u8, own(r, i));
+}
+
+// The room's area to w, with the latest step taken off.
+pub(crate) fn pop(r: &[u8], w: &mut [u8])
+    requires { ⌜ Head (now r) × ((0 < kept (now r)) × (length (now w) ≡ roomFor (limit (now r)) (depth (now r)))) ⌝ }
+    ensures { λ _. ⌜ now (w .exit) ≡ popped (area (now (r .entry))) ⌝ }
+{
+    let n = number_in(r, 0);
+    let s = number_in(r, 1);
+    let k = number_in(r, 3);
+    let at = 1048 + n * 2211;
+    let room = at + s * 1186;
+    lay(w, 0, part_of(r, 0, room));
+    lay(w, at, part_of(r, at + 1186, (s - 1) * 1186));
+    w[3] = (k - 1) as u8;
+}

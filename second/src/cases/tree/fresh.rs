@@ -1,0 +1,306 @@
+//! Random sequences whose parts have to do with each other: entries name the
+//! objects' types, objects share owners, lists come down from the root.
+
+use super::make::{list_of_length, root, start};
+use super::sequence::{SMALL, Sequence};
+use crate::cases::build::{
+    EntryPlan, creator_sid, good_list, list_of_plans, nt_sid, of_creator_authority,
+};
+use crate::cases::inherit::fresh::{mapping, not_looked_at, ordinary_sid, related_guids};
+use crate::cases::inherit::refusals::{bad_lists, bad_sids};
+use crate::list::Guid;
+use crate::random::Random;
+use crate::tree::{Add, Call, Calls, Change, LONGEST_LIST, NO_PARENT, Object, Part, Start, traits};
+
+const STORED: usize = 300;
+
+/// What the calls of one sequence draw from.
+pub struct Palette {
+    guids: Vec<Guid>,
+    sids: Vec<Vec<u8>>,
+    most_entries: usize,
+    with_objects: bool,
+    /// Longer entries, so that lists soon pass 1,024 bytes.
+    heavy: bool,
+}
+
+impl Palette {
+    pub fn draw(random: &mut Random) -> Palette {
+        let heavy = random.chance(1, 3);
+        let mut sids: Vec<Vec<u8>> = (0..4).map(|_| ordinary_sid(random)).collect();
+        sids.push(nt_sid(&[18]));
+        if heavy {
+            sids.push(nt_sid(&[random.word(); 15]));
+            sids.push(nt_sid(&[random.word(); 12]));
+        }
+        Palette {
+            guids: related_guids(random),
+            sids,
+            most_entries: if heavy { 6 } else { 3 },
+            with_objects: random.chance(1, 3),
+            heavy,
+        }
+    }
+
+    /// Half of the flags are such that entries come down.
+    fn plan(&self, random: &mut Random) -> EntryPlan {
+        let mut plan = EntryPlan::random(random, self.with_objects);
+        if random.chance(3, 4) {
+            plan.flags = *random.pick(&[0x00, 0x01, 0x02, 0x03, 0x03, 0x07, 0x0A, 0x0B]);
+        }
+        match random.below(16) {
+            0..4 => plan.sid = creator_sid(0),
+            4..6 => plan.sid = creator_sid(1),
+            6..14 => plan.sid = self.sid(random),
+            14 => plan.sid = of_creator_authority(random),
+            _ => {}
+        }
+        for guid in &mut plan.guids {
+            if random.chance(7, 8) {
+                *guid = *random.pick(&self.guids);
+            }
+        }
+        plan
+    }
+
+    pub fn sid(&self, random: &mut Random) -> Vec<u8> {
+        random.pick(&self.sids).clone()
+    }
+
+    /// A good list, now and then a long one.
+    pub fn list(&self, random: &mut Random) -> Vec<u8> {
+        if self.heavy && random.chance(1, 12) {
+            let length = LONGEST_LIST - 8 * random.below(70);
+            let flags = *random.pick(&[0x00, 0x01, 0x02, 0x03, 0x13]);
+            return list_of_length(flags, length);
+        }
+        let count = random.below(self.most_entries + 1);
+        let plans: Vec<EntryPlan> = (0..count).map(|_| self.plan(random)).collect();
+        if random.chance(1, 6) {
+            list_of_plans(4, &plans)
+        } else {
+            good_list(&plans)
+        }
+    }
+
+    /// With limits under those given; not 0 objects.
+    pub fn start(&self, random: &mut Random, most_objects: usize, most_steps: usize) -> Start {
+        let objects = 1 + random.below(most_objects) as u32;
+        let steps = random.below(most_steps + 1) as u32;
+        let has_default = random.chance(1, 2);
+        let mut default_list = self.list(random);
+        if !has_default {
+            default_list = not_looked_at(random, default_list);
+        }
+        Start {
+            rule: if random.chance(1, 4) { 1 } else { 2 },
+            mapping: mapping(random),
+            has_default: yes_or_no(random, has_default),
+            default_list,
+            ..start(objects, steps)
+        }
+    }
+
+    /// Good but for a number now and then.
+    pub fn change(&self, random: &mut Random, standing: &[Object], most: usize) -> Change {
+        let wants_more = standing.len() < 2 || random.chance(1, 3);
+        let has_place = standing.len() < most || random.chance(1, 4);
+        if wants_more && has_place {
+            return Change::Add(self.add(random, standing));
+        }
+        let object = object(random, standing.len());
+        match random.below(8) {
+            0..4 => {
+                let has_list = random.chance(3, 4);
+                let list = self.list(random);
+                Change::SetList {
+                    object,
+                    has_list: yes_or_no(random, has_list),
+                    list: if has_list {
+                        list
+                    } else {
+                        not_looked_at(random, list)
+                    },
+                }
+            }
+            4 | 5 => {
+                let mark = random.chance(1, 2);
+                let mark = yes_or_no(random, mark);
+                Change::SetMark { object, mark }
+            }
+            _ => Change::SetOwner {
+                object,
+                owner: self.sid(random),
+                group: self.sid(random),
+            },
+        }
+    }
+
+    pub fn add(&self, random: &mut Random, standing: &[Object]) -> Add {
+        let is_root = standing.is_empty();
+        let container = random.chance(if is_root { 15 } else { 10 }, 16);
+        let protected = random.chance(1, 4);
+        let listed = random.chance(if is_root { 7 } else { 3 }, 8);
+        let chosen = [
+            (traits::CONTAINER, container),
+            (traits::PROTECTED, protected),
+            (traits::OWN_LIST, listed),
+            (!traits::ALL, random.chance(1, 12)),
+        ];
+        let list = self.list(random);
+        Add {
+            parent: parent(random, standing),
+            traits: chosen
+                .into_iter()
+                .filter(|&(_, yes)| yes)
+                .map(|(bits, _)| bits)
+                .sum(),
+            object_type: *random.pick(&self.guids),
+            owner: self.sid(random),
+            group: self.sid(random),
+            list: if listed {
+                list
+            } else {
+                not_looked_at(random, list)
+            },
+        }
+    }
+}
+
+fn yes_or_no(random: &mut Random, yes: bool) -> u32 {
+    match (yes, random.below(8)) {
+        (false, _) => 0,
+        (true, 0) => 1 << random.below(32),
+        (true, _) => 1,
+    }
+}
+
+/// One that stands, in most cases.
+pub fn object(random: &mut Random, standing: usize) -> u32 {
+    match random.below(40) {
+        0 => standing as u32,
+        1 => *random.pick(&[64, 0xFE, 0xFF, 0x100, NO_PARENT]),
+        _ if standing == 0 => 0,
+        _ => random.below(standing) as u32,
+    }
+}
+
+/// As it has to be, in most cases.
+fn parent(random: &mut Random, standing: &[Object]) -> u32 {
+    let containers: Vec<u32> = (0..standing.len())
+        .filter(|&number| standing[number].is_container)
+        .map(|number| number as u32)
+        .collect();
+    match random.below(24) {
+        0 => object(random, standing.len()),
+        1 => NO_PARENT,
+        _ if standing.is_empty() => NO_PARENT,
+        _ if containers.is_empty() => 0,
+        // The latest as often as all others, so that chains come about.
+        n if n < 12 => *containers.last().expect("it isn't empty"),
+        _ => *random.pick(&containers),
+    }
+}
+
+pub fn sequences(random: &mut Random) -> Vec<Vec<Call>> {
+    let faults = Faults {
+        lists: bad_lists(),
+        sids: bad_sids(random),
+    };
+    (0..STORED).map(|_| one(random, &faults)).collect()
+}
+
+struct Faults {
+    lists: Vec<Vec<u8>>,
+    sids: Vec<Vec<u8>>,
+}
+
+impl Faults {
+    fn spoil(&self, random: &mut Random, change: &mut Change) {
+        let list_first = random.chance(1, 2);
+        match change {
+            Change::Add(Add { list, .. }) if list_first => *list = self.list(random),
+            Change::SetList { list, .. } => *list = self.list(random),
+            Change::Add(Add { owner, group, .. }) | Change::SetOwner { owner, group, .. } => {
+                let which = if random.chance(1, 2) { owner } else { group };
+                *which = random.pick(&self.sids).clone();
+            }
+            Change::SetMark { object, .. } => *object += 64,
+        }
+    }
+
+    fn list(&self, random: &mut Random) -> Vec<u8> {
+        random.pick(&self.lists).clone()
+    }
+}
+
+/// What a sequence has room for at its end.
+const CLOSING: usize = SMALL + 4;
+
+fn one(random: &mut Random, faults: &Faults) -> Vec<Call> {
+    let palette = Palette::draw(random);
+    let most_steps = *random.pick(&[0, 1, 2, 3, 8, 16, 64]);
+    let start = palette.start(random, SMALL, most_steps);
+    let most = start.objects as usize;
+    let mut sequence = Sequence::started(start);
+    let wanted = 22 + random.below(38);
+    let wanted_left = 60 - wanted;
+    if random.chance(7, 8) {
+        sequence.add(Add {
+            parent: root(0).parent,
+            ..palette.add(random, &[])
+        });
+    }
+    while sequence.left() > wanted_left + CLOSING {
+        match random.below(16) {
+            0..10 => {
+                let standing = sequence.tree().objects();
+                let mut change = palette.change(random, &standing, most);
+                if random.chance(1, 16) {
+                    faults.spoil(random, &mut change);
+                }
+                let done = !sequence.change(change).is_refused();
+                if done && random.chance(1, 3) {
+                    read_lists(&mut sequence);
+                }
+            }
+            10..13 => sequence.undo(),
+            13 => undo_some(random, &mut sequence),
+            14 => read_one(random, &mut sequence),
+            _ => sequence.counts(),
+        }
+    }
+    sequence.lists();
+    sequence.counts();
+    read_one(random, &mut sequence);
+    sequence.calls()
+}
+
+fn read_lists(sequence: &mut Sequence) {
+    if sequence.left() > CLOSING + SMALL {
+        sequence.lists();
+    }
+}
+
+fn undo_some(random: &mut Random, sequence: &mut Sequence) {
+    for _ in 0..2 + random.below(3) {
+        if sequence.left() > CLOSING + SMALL {
+            sequence.undo();
+        }
+    }
+}
+
+/// Into too short a room now and then.
+fn read_one(random: &mut Random, sequence: &mut Sequence) {
+    let part = *random.pick(&Part::ALL);
+    let object = object(random, sequence.tree().objects().len());
+    let length = sequence.length(part, object);
+    let out_length = match random.below(6) {
+        0 => length.saturating_sub(1),
+        1 => 0,
+        2 => length,
+        3 => 1_100,
+        _ => length + random.below(40),
+    };
+    sequence.read_into(part, object, out_length);
+}
