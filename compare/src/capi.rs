@@ -1,5 +1,7 @@
 //! The calls of the C library, wrapped so that what is lent is watched.
 
+pub mod tree;
+
 use std::ffi::c_uint;
 use std::ptr;
 

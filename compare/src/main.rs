@@ -6,12 +6,13 @@ mod list;
 mod mutate;
 mod repeat;
 mod report;
+mod tree;
 
 use std::process::ExitCode;
 
 use report::Report;
 
-const USAGE: &str = "usage: compare list|compute --cases N --seed S
+const USAGE: &str = "usage: compare list|compute|tree --cases N --seed S
        compare repeat library|second read|compute TIMES";
 
 struct Run {
@@ -65,6 +66,7 @@ fn layer_by_name(name: &str) -> Option<fn(usize, u64) -> Report> {
     match name {
         "list" => Some(list::compare),
         "compute" => Some(compute::compare),
+        "tree" => Some(tree::compare),
         _ => None,
     }
 }

@@ -7,7 +7,7 @@ pub const TELLING: [u8; 19] = [
     0, 1, 2, 3, 4, 5, 6, 7, 8, 0x0F, 0x10, 0x11, 0x14, 0x1F, 0x20, 0x40, 0x7F, 0x80, 0xFF,
 ];
 
-fn changed_byte(random: &mut Random, old: u8) -> u8 {
+pub fn changed_byte(random: &mut Random, old: u8) -> u8 {
     match random.below(8) {
         0 => old.wrapping_add(1),
         1 => old.wrapping_sub(1),

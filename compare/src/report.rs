@@ -9,6 +9,8 @@ pub struct Report {
     cases: usize,
     answers: BTreeMap<(&'static str, u32), usize>,
     branches: BTreeMap<&'static str, usize>,
+    calls: BTreeMap<(&'static str, u32), usize>,
+    rooms: BTreeMap<&'static str, usize>,
     differences: usize,
     shown: Vec<String>,
 }
@@ -20,6 +22,8 @@ impl Report {
             cases: 0,
             answers: BTreeMap::new(),
             branches: BTreeMap::new(),
+            calls: BTreeMap::new(),
+            rooms: BTreeMap::new(),
             differences: 0,
             shown: Vec::new(),
         }
@@ -27,8 +31,13 @@ impl Report {
 
     /// Counts one case by its call and the second program's number.
     pub fn add(&mut self, call: &'static str, number: u32, difference: Option<String>) {
-        self.cases += 1;
         *self.answers.entry((call, number)).or_default() += 1;
+        self.add_case(difference);
+    }
+
+    /// Counts one case of many calls.
+    pub fn add_case(&mut self, difference: Option<String>) {
+        self.cases += 1;
         let Some(difference) = difference else {
             return;
         };
@@ -41,6 +50,16 @@ impl Report {
     /// Counts the branch that a case went by.
     pub fn add_branch(&mut self, branch: &'static str) {
         *self.branches.entry(branch).or_default() += 1;
+    }
+
+    /// Counts one call of a case.
+    pub fn add_call(&mut self, call: &'static str, number: u32) {
+        *self.calls.entry((call, number)).or_default() += 1;
+    }
+
+    /// Counts a room that was handed in.
+    pub fn add_room(&mut self, what: &'static str) {
+        *self.rooms.entry(what).or_default() += 1;
     }
 
     pub fn cases(&self) -> usize {
@@ -58,6 +77,12 @@ impl Report {
         }
         for (branch, count) in &self.branches {
             text += &format!("{branch}: {count} cases\n");
+        }
+        for ((call, number), count) in &self.calls {
+            text += &format!("{call} {number}: {count} calls\n");
+        }
+        for (what, count) in &self.rooms {
+            text += &format!("{what}: {count} rooms\n");
         }
         for difference in &self.shown {
             text += &format!("difference: {difference}\n");

@@ -11,15 +11,18 @@ use lib.ListN.{length, drop}
 use lib.Seq.{take-at}
 use lib.Dec.{eqb, ltb}
 use borrow.Author.Tests.{lt-ltb, le-ltb}
-use Rattle.list.specs.Bytes.{part, putAt}
+use Rattle.list.specs.Bytes.{le, part, putAt}
 use Rattle.inherit.specs.declared.Settings.{Settings}
+use Rattle.inherit.specs.declared.Mapping.{Mapping}
 use Rattle.inherit.specs.declared.Computed.{Computed}
 use Rattle.inherit.specs.declared.Computed.the-variants.{Present, Absent, Refused}
-use Rattle.inherit.specs.Given.{Optional, absent, present, lent}
-use Rattle.inherit.specs.Compute.{bytesFor, outBy}
+use Rattle.list.specs.Entry.{access}
+use Rattle.inherit.specs.Given.{Given, Optional, absent, present, lent}
+use Rattle.inherit.specs.Branch.{Result, resultOf}
+use Rattle.inherit.specs.Compute.{computeOf, bytesFor, outBy, answerFor, outFor, resultFor}
 use Rattle.inherit.proofs.Theorems.{present-fits}
-use Rattle.tree.specs.Held.{hasList, bytesIn, held, slotFor, kindOf, markOf, typeOf, ownSlot, ownList, parentOf}
-use Rattle.tree.specs.Room.{slotAt, settings, defaultSlot, defaultOf, own, slot}
+use Rattle.tree.specs.Held.{hasList, bytesIn, held, slotFor, kindOf, markOf, typeOf, ownerOf, groupOf, ownSlot, ownList, parentOf}
+use Rattle.tree.specs.Room.{slotAt, settings, ruleOf, defaultSlot, defaultOf, mappingOf, own, slot}
 use Rattle.tree.specs.Work.{given, settingsIn, givenIn, answerIn, resultIn, taken, computed, above, laid, rework, reworked}
 use Rattle.tree.specs.History.{bind, isSome, orElse}
 
@@ -29,10 +32,63 @@ given-lent false s = refl
 
 -- the settings as the code finds them in slots and own data
 pub settings-found : (e p b : List ℕ) (x y z k m : Bool) → x ≡ hasList p → y ≡ hasList (ownSlot b) → z ≡ hasList (defaultSlot e) → k ≡ eqb (kindOf b) 1 → m ≡ eqb (markOf b) 1
-    → record { parent = x; creator = y; default = z; container = k; auto = true; defaulted = false; protect = m } ≡ settingsIn e (held p) b
+    → _≡_ {A = Settings} (record { parent = x; creator = y; default = z; container = k; auto = true; defaulted = false; protect = m }) (settingsIn e (held p) b)
 settings-found e p b x y z k m ex ey ez ek em =
     rw (ex, ey, ez, ek, em, given-lent (hasList p) (bytesIn p), given-lent (hasList (ownSlot b)) (bytesIn (ownSlot b)), given-lent (hasList (defaultSlot e)) (bytesIn (defaultSlot e)))
     refl
+
+-- the masks
+pub masks-found : (e : List ℕ) (a b c d : ℕ) → a ≡ le 4 (drop 1 e) → b ≡ le 4 (drop 5 e) → c ≡ le 4 (drop 9 e) → d ≡ le 4 (drop 13 e)
+    → _≡_ {A = Mapping} (record { read = a; write = b; execute = c; all = d }) (mappingOf e)
+masks-found e a b c d ea eb ec ed = rw (ea, eb, ec, ed) refl
+
+-- a slot's list as the computation takes it
+lent-held : (b : Bool) (s : List ℕ) → lent (given (lent b s)) s ≡ lent b s
+lent-held true s = refl
+lent-held false s = refl
+
+module _ (e p b : List ℕ) where
+  S : Settings
+  S = settingsIn e (held p) b
+
+  G : Given
+  G = givenIn e (held p) b
+
+  qp : lent (given (held p)) (bytesIn p) ≡ held p
+  qp = lent-held (hasList p) (bytesIn p)
+
+  qc : lent (given (ownList b)) (bytesIn (ownSlot b)) ≡ ownList b
+  qc = lent-held (hasList (ownSlot b)) (bytesIn (ownSlot b))
+
+  qd : lent (given (defaultOf e)) (bytesIn (defaultSlot e)) ≡ defaultOf e
+  qd = lent-held (hasList (defaultSlot e)) (bytesIn (defaultSlot e))
+
+  answer-held : (room : ℕ) → answerFor (ruleOf e) (settingsIn e (held p) b) (mappingOf e) (bytesIn p) (bytesIn (ownSlot b)) (bytesIn (defaultSlot e)) (typeOf b) (ownerOf b) (groupOf b) room
+      ≡ answerIn e (held p) b room
+  unfolding S G
+  answer-held room =
+      ap (λ (x : Optional). computeOf S G (typeOf b) x (lent (given (ownList b)) (bytesIn (ownSlot b))) (lent (given (defaultOf e)) (bytesIn (defaultSlot e))) room) qp
+      ∙ ap (λ (x : Optional). computeOf S G (typeOf b) (held p) x (lent (given (defaultOf e)) (bytesIn (defaultSlot e))) room) qc
+      ∙ ap (λ (x : Optional). computeOf S G (typeOf b) (held p) (ownList b) x room) qd
+
+  result-held : resultFor (ruleOf e) (settingsIn e (held p) b) (mappingOf e) (bytesIn p) (bytesIn (ownSlot b)) (bytesIn (defaultSlot e)) (typeOf b) (ownerOf b) (groupOf b)
+      ≡ resultIn e (held p) b
+  unfolding S G
+  result-held =
+      ap (λ (x : Optional). resultOf access S G x (lent (given (ownList b)) (bytesIn (ownSlot b))) (lent (given (defaultOf e)) (bytesIn (defaultSlot e)))) qp
+      ∙ ap (λ (x : Optional). resultOf access S G (held p) x (lent (given (defaultOf e)) (bytesIn (defaultSlot e)))) qc
+      ∙ ap (λ (x : Optional). resultOf access S G (held p) (ownList b) x) qd
+
+  -- the computation called with what lies in the slots and in own data
+  pub compute-found : (rule : ℕ) (s : Settings) (m : Mapping) (P C D types owner group out out₁ : List ℕ) (r : Computed)
+      → rule ≡ ruleOf e → s ≡ settingsIn e (held p) b → m ≡ mappingOf e → P ≡ bytesIn p → C ≡ bytesIn (ownSlot b) → D ≡ bytesIn (defaultSlot e)
+      → types ≡ typeOf b → owner ≡ ownerOf b → group ≡ groupOf b
+      → r ≡ answerFor rule s m P C D types owner group (length out) → out₁ ≡ outFor rule s m P C D types owner group out
+      → (r ≡ answerIn e (held p) b (length out)) × (out₁ ≡ outBy r (bytesFor (resultIn e (held p) b)) out)
+  compute-found rule s m P C D types owner group out out₁ r er es em ep ec ed et eo eg h f =
+      let a : answerFor rule s m P C D types owner group (length out) ≡ answerIn e (held p) b (length out) = rw (er, es, em, ep, ec, ed, et, eo, eg) (answer-held (length out)) in
+      let y : resultFor rule s m P C D types owner group ≡ resultIn e (held p) b = rw (er, es, em, ep, ec, ed, et, eo, eg) result-held in
+      (h ∙ a, f ∙ ap (λ (x : Computed). outBy x (bytesFor (resultFor rule s m P C D types owner group)) out) (sym h) ∙ ap (λ (x : Result). outBy r (bytesFor x) out) y)
 
 -- the parent's slot, or nothing
 pub above-slot : (i p : ℕ) (r s : List ℕ) → p ≡ parentOf (own i r) → p < i → s ≡ slot p r → held s ≡ above i r

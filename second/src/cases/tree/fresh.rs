@@ -1,7 +1,7 @@
 //! Random sequences whose parts have to do with each other: entries name the
 //! objects' types, objects share owners, lists come down from the root.
 
-use super::make::{list_of_length, root, start};
+use super::make::{entries_of, list_of_length, root, start};
 use super::sequence::{SMALL, Sequence};
 use crate::cases::build::{
     EntryPlan, creator_sid, good_list, list_of_plans, nt_sid, of_creator_authority,
@@ -26,7 +26,7 @@ pub struct Palette {
 
 impl Palette {
     pub fn draw(random: &mut Random) -> Palette {
-        let heavy = random.chance(1, 3);
+        let heavy = random.chance(2, 5);
         let mut sids: Vec<Vec<u8>> = (0..4).map(|_| ordinary_sid(random)).collect();
         sids.push(nt_sid(&[18]));
         if heavy {
@@ -36,16 +36,18 @@ impl Palette {
         Palette {
             guids: related_guids(random),
             sids,
-            most_entries: if heavy { 6 } else { 3 },
+            most_entries: if heavy { 7 } else { 3 },
             with_objects: random.chance(1, 3),
             heavy,
         }
     }
 
-    /// Half of the flags are such that entries come down.
+    /// Most of the flags are such that entries come down.
     fn plan(&self, random: &mut Random) -> EntryPlan {
         let mut plan = EntryPlan::random(random, self.with_objects);
-        if random.chance(3, 4) {
+        if self.heavy && random.chance(1, 2) {
+            plan.flags = *random.pick(&[0x02, 0x03, 0x0B]);
+        } else if random.chance(3, 4) {
             plan.flags = *random.pick(&[0x00, 0x01, 0x02, 0x03, 0x03, 0x07, 0x0A, 0x0B]);
         }
         match random.below(16) {
@@ -67,12 +69,14 @@ impl Palette {
         random.pick(&self.sids).clone()
     }
 
+    pub fn guid(&self, random: &mut Random) -> Guid {
+        *random.pick(&self.guids)
+    }
+
     /// A good list, now and then a long one.
     pub fn list(&self, random: &mut Random) -> Vec<u8> {
-        if self.heavy && random.chance(1, 12) {
-            let length = LONGEST_LIST - 8 * random.below(70);
-            let flags = *random.pick(&[0x00, 0x01, 0x02, 0x03, 0x13]);
-            return list_of_length(flags, length);
+        if self.heavy && random.chance(1, 4) {
+            return self.long_list(random);
         }
         let count = random.below(self.most_entries + 1);
         let plans: Vec<EntryPlan> = (0..count).map(|_| self.plan(random)).collect();
@@ -83,10 +87,23 @@ impl Palette {
         }
     }
 
-    /// With limits under those given; not 0 objects.
-    pub fn start(&self, random: &mut Random, most_objects: usize, most_steps: usize) -> Start {
-        let objects = 1 + random.below(most_objects) as u32;
-        let steps = random.below(most_steps + 1) as u32;
+    /// Placeholders and other entries, up to the greatest length or, rarely,
+    /// past it.
+    fn long_list(&self, random: &mut Random) -> Vec<u8> {
+        let flags = *random.pick(&[0x00, 0x01, 0x02, 0x03, 0x07, 0x13]);
+        if random.chance(1, 4) {
+            return list_of_length(flags, LONGEST_LIST + 4 - 4 * random.below(16));
+        }
+        let length = 200 + 4 * random.below(150);
+        let mut plans = entries_of(flags, length);
+        for _ in 0..random.below(5) {
+            let at = random.below(plans.len() + 1);
+            plans.insert(at, EntryPlan::plain(0, flags, creator_sid(0)));
+        }
+        good_list(&plans)
+    }
+
+    pub fn start(&self, random: &mut Random, objects: u32, steps: u32) -> Start {
         let has_default = random.chance(1, 2);
         let mut default_list = self.list(random);
         if !has_default {
@@ -138,9 +155,9 @@ impl Palette {
 
     pub fn add(&self, random: &mut Random, standing: &[Object]) -> Add {
         let is_root = standing.is_empty();
-        let container = random.chance(if is_root { 15 } else { 10 }, 16);
+        let container = random.chance(if is_root || self.heavy { 15 } else { 10 }, 16);
         let protected = random.chance(1, 4);
-        let listed = random.chance(if is_root { 7 } else { 3 }, 8);
+        let listed = random.chance(if is_root || self.heavy { 7 } else { 3 }, 8);
         let chosen = [
             (traits::CONTAINER, container),
             (traits::PROTECTED, protected),
@@ -155,7 +172,7 @@ impl Palette {
                 .filter(|&(_, yes)| yes)
                 .map(|(bits, _)| bits)
                 .sum(),
-            object_type: *random.pick(&self.guids),
+            object_type: self.guid(random),
             owner: self.sid(random),
             group: self.sid(random),
             list: if listed {
@@ -239,9 +256,9 @@ const CLOSING: usize = SMALL + 4;
 
 fn one(random: &mut Random, faults: &Faults) -> Vec<Call> {
     let palette = Palette::draw(random);
-    let most_steps = *random.pick(&[0, 1, 2, 3, 8, 16, 64]);
-    let start = palette.start(random, SMALL, most_steps);
-    let most = start.objects as usize;
+    let most = 1 + random.below(2).max(random.below(SMALL));
+    let steps = *random.pick(&[0, 1, 2, 3, 8, 16, 16, 64]);
+    let start = palette.start(random, most as u32, steps);
     let mut sequence = Sequence::started(start);
     let wanted = 22 + random.below(38);
     let wanted_left = 60 - wanted;
@@ -264,7 +281,7 @@ fn one(random: &mut Random, faults: &Faults) -> Vec<Call> {
                     read_lists(&mut sequence);
                 }
             }
-            10..13 => sequence.undo(),
+            10..13 if sequence.tree().kept_steps() > 0 => sequence.undo(),
             13 => undo_some(random, &mut sequence),
             14 => read_one(random, &mut sequence),
             _ => sequence.counts(),
@@ -284,7 +301,8 @@ fn read_lists(sequence: &mut Sequence) {
 
 fn undo_some(random: &mut Random, sequence: &mut Sequence) {
     for _ in 0..2 + random.below(3) {
-        if sequence.left() > CLOSING + SMALL {
+        let has_step = sequence.tree().kept_steps() > 0 || random.chance(1, 4);
+        if has_step && sequence.left() > CLOSING + SMALL {
             sequence.undo();
         }
     }

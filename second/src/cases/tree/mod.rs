@@ -1,6 +1,7 @@
 //! The stored sequences of calls on a tree.
 
 mod chains;
+mod crossing;
 pub mod fresh;
 mod limits;
 pub mod make;
@@ -32,6 +33,7 @@ pub fn sequences() -> Vec<Vec<Call>> {
     all.extend(steps::sequences());
     all.extend(limits::sequences());
     all.extend(chains::sequences());
+    all.extend(crossing::sequences());
     all.extend(sizes::sequences());
     all.extend(shapes::sequences());
     all.extend(read_backs::sequences());
@@ -62,7 +64,7 @@ mod tests {
         for fault in Fault::ALL.into_iter().filter(|fault| fault.number() < 6) {
             for call in ["start", "add", "set list"] {
                 let label = format!("tree {call} {}  {}", fault.number(), fault.name());
-                often(&label, if call == "start" { 1 } else { 3 });
+                often(&label, 2);
             }
         }
         for call in ["add", "set list", "set mark", "set owner", "undo"] {
@@ -77,7 +79,7 @@ mod tests {
             often(&format!("tree {call} 0"), 500);
         }
         for call in ["add", "set list", "set mark", "set owner"] {
-            often(&format!("tree {call} 8  computed list too long"), 10);
+            often(&format!("tree {call} 8  computed list too long"), 15);
         }
         for (label, least) in [
             ("tree start 0", 400),
