@@ -2,8 +2,9 @@
 
 use super::places;
 use crate::mutate::changed_byte;
+use second::cases::build::creator_sid;
 use second::random::Random;
-use second::room::{self, Found, length};
+use second::room::{self, Found, Step, length};
 
 /// What is left may be well formed or not.
 pub fn damaged(random: &mut Random, room: &[u8]) -> Vec<u8> {
@@ -50,7 +51,7 @@ fn random_bytes(random: &mut Random, room: &mut [u8]) {
 fn damage(random: &mut Random, found: &Found, room: &mut [u8]) {
     let objects = found.objects.len();
     let steps = found.steps.len();
-    match random.below(16) {
+    match random.below(24) {
         0 | 1 => {
             let at = random.below(found.limits.room());
             change(random, room, at);
@@ -78,6 +79,19 @@ fn damage(random: &mut Random, found: &Found, room: &mut [u8]) {
             let at = places::step(found.limits.objects, number) + random.below(6);
             change(random, room, at);
         }
+        18 if objects > 0 => {
+            let at = *random.pick(&places::identities(found));
+            let sid = creator_sid(random.below(3) as u32);
+            room[at] = sid.len() as u8;
+            room[at + 1..at + 1 + sid.len()].copy_from_slice(&sid);
+        }
+        19 | 20 => change_limit(random, room),
+        21.. if objects > 0 => change_what_stays(random, found, room),
+        16.. if steps > 0 => {
+            let at = places::step(found.limits.objects, random.below(steps));
+            room[at] = *random.pick(&[0, 1, 1, 2, 2, 3]);
+            room[at + 1] = random.below(objects + 2) as u8;
+        }
         9 if steps > 1 => exchange_steps(random, found, room),
         10 if objects > 0 => copy_own_data(random, found, room),
         11 => {
@@ -103,6 +117,33 @@ fn damage(random: &mut Random, found: &Found, room: &mut [u8]) {
 
 fn change(random: &mut Random, room: &mut [u8], at: usize) {
     room[at] = changed_byte(random, room[at]);
+}
+
+/// By one; without steps, none is in the wrong place afterwards.
+fn change_limit(random: &mut Random, room: &mut [u8]) {
+    let at = random.below(2);
+    let by = *random.pick(&[1, 0xFF, 0xFF]);
+    room[at] = room[at].wrapping_add(by);
+    if at == 0 && random.chance(3, 4) {
+        room[3] = 0;
+    }
+}
+
+/// Parent, kind or type of an object, in its steps as well.
+fn change_what_stays(random: &mut Random, found: &Found, room: &mut [u8]) {
+    let number = random.below(found.objects.len());
+    let (at, value) = match random.below(4) {
+        0 => (0, random.below(found.objects.len() + 1) as u8),
+        1 => (0, *random.pick(&[0, 0xFE, 0xFF])),
+        2 => (1, *random.pick(&[0, 0, 0, 1, 2])),
+        _ => (3 + random.below(16), random.byte()),
+    };
+    room[places::object(number) + at] = value;
+    for (place, step) in found.steps.iter().enumerate() {
+        if matches!(step, Step::Other { object, .. } if *object == number) {
+            room[places::step(found.limits.objects, place) + 2 + at] = value;
+        }
+    }
 }
 
 fn exchange_steps(random: &mut Random, found: &Found, room: &mut [u8]) {

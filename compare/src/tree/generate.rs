@@ -26,6 +26,16 @@ pub fn start(random: &mut Random, palette: &Palette) -> Start {
     start
 }
 
+/// How many calls follow a start; now and then enough to pass the greatest
+/// step limit.
+pub fn how_many(random: &mut Random, start: &Start) -> usize {
+    if start.steps >= 60 && random.chance(1, 4) {
+        80 + random.below(60)
+    } else {
+        4 + random.below(16)
+    }
+}
+
 /// The formula's length, or some more.
 pub fn room_length(random: &mut Random, start: &Start) -> usize {
     let more = match random.below(3) {
@@ -179,12 +189,12 @@ pub fn read(random: &mut Random, ours: &Ours, part: Part, object: u32) -> Call {
         .expected()
         .and_then(|tree| tree.read_back(part, object, &mut out).ok())
         .map_or(0, |answer| answer.length as usize);
-    let out_length = match random.below(12) {
+    let out_length = match random.below(24) {
         0 => 0,
         1 => length.saturating_sub(1),
         2 => random.below(length + 1),
         3 => LONGEST_LIST + random.below(100),
-        4..8 => length,
+        4..16 => length,
         _ => length + random.below(20),
     };
     Call::Read {
@@ -204,12 +214,24 @@ pub fn calls_on_any_room(random: &mut Random, palette: &Palette, ours: &Ours) ->
         let object = object(random, standing);
         calls.push(read(random, ours, part, object));
     }
-    let mark = random.below(2) as u32;
-    let object = object(random, standing);
-    calls.push(Call::Change(Change::SetMark { object, mark }));
-    calls.push(Call::Change(Change::Add(palette.add(random, &objects))));
-    for _ in 0..2 {
-        calls.push(Call::Change(change(random, palette, &objects, most)));
-    }
+    let changes = [
+        Change::SetMark {
+            object: object(random, standing),
+            mark: random.below(2) as u32,
+        },
+        Change::SetList {
+            object: object(random, standing),
+            has_list: random.below(4) as u32,
+            list: palette.list(random),
+        },
+        Change::SetOwner {
+            object: object(random, standing),
+            owner: palette.sid(random),
+            group: palette.sid(random),
+        },
+        Change::Add(palette.add(random, &objects)),
+        change(random, palette, &objects, most),
+    ];
+    calls.extend(changes.map(Call::Change));
     calls
 }

@@ -6,13 +6,14 @@ use second::random::Random;
 use second::room::{Found, Step, lay_out_over, length};
 use second::tree::{LONGEST_LIST, Limits, Object, Settings};
 
-const MOST_OBJECTS: usize = 6;
-const MOST_STEPS: usize = 6;
+/// Of objects and of steps.
+const FEW: usize = 6;
+const MANY: usize = 64;
 
 /// Computed lists are good and not fresh; steps lead to states that never
 /// were. Noise lies wherever nothing looks.
-pub fn room(random: &mut Random, palette: &Palette) -> (Found, Vec<u8>) {
-    let found = tree(random, palette);
+pub fn room(random: &mut Random, palette: &Palette, large: bool) -> (Found, Vec<u8>) {
+    let found = tree(random, palette, if large { MANY } else { FEW });
     let more = random.below(2) * random.below(40);
     let noise = random.bytes(found.limits.room() + more);
     let mut room = lay_out_over(&found, noise);
@@ -20,10 +21,10 @@ pub fn room(random: &mut Random, palette: &Palette) -> (Found, Vec<u8>) {
     (found, room)
 }
 
-fn tree(random: &mut Random, palette: &Palette) -> Found {
+fn tree(random: &mut Random, palette: &Palette, most: usize) -> Found {
     let limits = Limits {
-        objects: 1 + random.below(MOST_OBJECTS),
-        steps: random.below(MOST_STEPS + 1),
+        objects: 1 + random.below(most),
+        steps: random.below(most + 1),
     };
     let start = palette.start(random, limits.objects as u32, limits.steps as u32);
     let mut objects = Vec::new();

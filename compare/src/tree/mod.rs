@@ -5,27 +5,24 @@ mod damage;
 mod generate;
 mod made;
 mod places;
+mod told;
 
 use crate::report::Report;
 use check::{Both, Ours};
 use second::cases::tree::fresh::Palette;
-use second::hex;
 use second::random::Random;
-use second::records::{Case, calls, encode_all};
-use second::tree::{Add, Call, Change, Part};
+use second::tree::{Call, Part};
+use told::Told;
 
-/// Longer sequences are told by their number alone.
-const LONGEST_TOLD: usize = 4_000;
-
+/// Each case draws from a generator of its own, so that it stays the same
+/// whatever the others find.
 pub fn compare(cases: usize, seed: u64) -> Report {
-    let mut random = Random::new(seed);
+    let mut seeds = Random::new(seed);
     let mut report = Report::new("tree");
     for number in 1..=cases {
-        let difference = one(&mut random, &mut report);
-        let told = difference
-            .err()
-            .map(|what| format!("case {number}: {what}"));
-        report.add_case(told);
+        let mut random = Random::new(seeds.draw());
+        let difference = one(&mut random, &mut report).err();
+        report.add_case(difference.map(|what| format!("case {number}: {what}")));
     }
     report
 }
@@ -35,12 +32,21 @@ fn one(random: &mut Random, report: &mut Report) -> Result<(), String> {
     let room = sequence(random, report, &palette)?;
     for _ in 0..random.below(3) {
         let damaged = damage::damaged(random, &room);
-        on_any_room(random, report, &palette, damaged)?;
+        on_any_room(random, report, &palette, &damaged).map_err(|what| {
+            format!(
+                "{what}, on a damaged room, {}",
+                told::damage(&room, &damaged)
+            )
+        })?;
     }
     if random.chance(1, 2) {
-        let (found, room) = made::room(random, &palette);
+        let large = random.chance(1, 40);
+        let heavy = !large && random.chance(3, 4);
+        let palette = Palette::of_weight(random, heavy);
+        let (found, room) = made::room(random, &palette, large);
         check::is_found(&room, &found)?;
-        on_any_room(random, report, &palette, room)?;
+        on_any_room(random, report, &palette, &room)
+            .map_err(|what| format!("{what}, on a room made of {}", told::tree(&found)))?;
     }
     Ok(())
 }
@@ -54,6 +60,7 @@ fn sequence(
     let start = generate::start(random, palette);
     let room_length = generate::room_length(random, &start);
     let mut both = Both::before_start(random, room_length);
+    let wanted = generate::how_many(random, &start);
     let mut told = Told::default();
     for spoilt in generate::spoilt_starts(random, &start, room_length) {
         told.play(&mut both, random, report, spoilt)?;
@@ -63,7 +70,7 @@ fn sequence(
         start,
     };
     told.play(&mut both, random, report, good)?;
-    for _ in 0..4 + random.below(16) {
+    for _ in 0..wanted {
         let tree = both.ours.tree().expect("a start was done");
         let call = generate::call(random, palette, tree);
         let changes = matches!(call, Call::Change(_) | Call::Undo);
@@ -98,79 +105,28 @@ fn read_back(
     told.play(both, random, report, Call::Counts)
 }
 
-/// The calls of a sequence so far, for the report.
-#[derive(Default)]
-struct Told {
-    calls: Vec<Call>,
-}
-
-impl Told {
-    fn play(
-        &mut self,
-        both: &mut Both,
-        random: &mut Random,
-        report: &mut Report,
-        call: Call,
-    ) -> Result<(), String> {
-        self.calls.push(call);
-        let call = self.calls.last().expect("one was pushed");
-        both.play(random, report, call)
-            .map_err(|what| self.text(&what))
-    }
-
-    /// As a case file, so that it can be tried again.
-    fn text(&self, what: &str) -> String {
-        let name = self.calls.last().map_or("none", Call::name);
-        let count = self.calls.len();
-        let within = self.calls.iter().all(within_records);
-        let cases: Vec<Case> = self.calls.iter().cloned().map(Case::Tree).collect();
-        let file = if within {
-            encode_all(&cases)
-        } else {
-            Vec::new()
-        };
-        if within && file.len() <= LONGEST_TOLD {
-            format!("{what}, by call {count}, {name}, of {}", hex::encode(&file))
-        } else {
-            format!("{what}, by call {count}, {name}")
-        }
-    }
-}
-
-/// Whether a record can hold the call's list.
-fn within_records(call: &Call) -> bool {
-    let list = match call {
-        Call::Start { start, .. } => &start.default_list,
-        Call::Change(Change::Add(Add { list, .. }) | Change::SetList { list, .. }) => list,
-        _ => return true,
-    };
-    list.len() <= calls::LONGEST_LIST
-}
-
-/// Some calls, each on the room as it was, then some in turn.
+/// Some calls, each on the room as it is, then some in turn.
 fn on_any_room(
     random: &mut Random,
     report: &mut Report,
     palette: &Palette,
-    room: Vec<u8>,
+    room: &[u8],
 ) -> Result<(), String> {
-    let ours = Ours::found_in(&room);
+    let ours = Ours::found_in(room);
     report.add_room(match ours {
         Ours::NoTree => "no tree",
         _ => "a tree",
     });
     for call in generate::calls_on_any_room(random, palette, &ours) {
-        let mut both = Both::of(random, ours.clone(), &room);
-        both.play(random, report, &call)
-            .map_err(|what| format!("{what}, by {call:?} on a room that was made"))?;
+        let mut both = Both::of(random, ours.clone(), room);
+        Told::default().play(&mut both, random, report, call)?;
     }
-    let mut both = Both::of(random, ours, &room);
+    let mut both = Both::of(random, ours, room);
     let mut told = Told::default();
     for _ in 0..random.below(6) {
         let calls = generate::calls_on_any_room(random, palette, &both.ours);
         let call = random.pick(&calls).clone();
-        told.play(&mut both, random, report, call)
-            .map_err(|what| format!("{what}, on a room that was made"))?;
+        told.play(&mut both, random, report, call)?;
     }
     Ok(())
 }

@@ -1,6 +1,7 @@
 //! Where things lie in a room, by docs/ROOM.md.
 
 use second::room::{Found, Step, length};
+use second::tree::LONGEST_LIST;
 
 /// Own data begins with parent, kind, mark and type.
 pub const OWNER: usize = 19;
@@ -45,10 +46,12 @@ pub fn identities(found: &Found) -> Vec<usize> {
     places.flat_map(|at| [at + OWNER, at + GROUP]).collect()
 }
 
-/// The list's length, by a slot's head; 0 where it's absent.
+/// The list's length, by a slot's head that may be damaged; 0 where it's
+/// absent.
 pub fn length_in_slot(room: &[u8], slot: usize) -> usize {
+    let length = u16::from_le_bytes([room[slot + 1], room[slot + 2]]);
     match room[slot] {
         0 => 0,
-        _ => usize::from(u16::from_le_bytes([room[slot + 1], room[slot + 2]])),
+        _ => LONGEST_LIST.min(length.into()),
     }
 }

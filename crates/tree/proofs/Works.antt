@@ -101,7 +101,6 @@ above-none i p r e h = rw (← e, le-ltb p i h) refl
 
 -- one object, by what the computation answers
 module _ (i : ℕ) (w out out₁ : List ℕ) (x : Optional) (q : x ≡ above i w) (room : length out ≡ 1024) where
-
   pub rework-present : (l n k : ℕ) (w₁ : List ℕ) → answerIn (settings w) x (own i w) (length out) ≡ Present l n k
       → out₁ ≡ outBy (Present l n k) (bytesFor (resultIn (settings w) x (own i w))) out
       → w₁ ≡ putAt (slotAt i) (slotFor (present (part 0 l out₁))) w

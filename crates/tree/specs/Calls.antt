@@ -15,6 +15,7 @@ use Rattle.inherit.specs.declared.Mapping.{Mapping}
 use Rattle.inherit.specs.Given.{Optional, absent, present}
 use Rattle.inherit.specs.Compute.{ordinary, ruleOk}
 use Rattle.tree.specs.declared.Answer.{Answer}
+use Rattle.tree.specs.declared.tests.Fault.{Fault}
 use Rattle.tree.specs.declared.Answer.the-variants.{Done, Refused}
 use Rattle.tree.specs.Held.{New, held, slotFor, idFor, blockFor, yes, ownerOf, groupOf, ownList}
 use Rattle.tree.specs.Room.{limit, depth, objects, kept, ownAt, stepsAt, roomFor, limitsOk, own, slot, step, tagOf, numberOf, savedIn, area, emptyRoom}
@@ -57,6 +58,10 @@ short (present s) = leb (length s) 1024
 unfoldable pub told : Optional → Answer
 told absent = Done 0 false 0
 told (present s) = Done (length s) true (countOf s)
+
+-- the calls that name an object: 13, 9
+unfoldable pub onObject : List ℕ → ℕ → List ℕ → Outcome → Outcome
+onObject r i x rest = need (formed r) 13 x (need (ltb i (objects r)) 9 x rest)
 
 -- ---- the steps
 
@@ -105,15 +110,17 @@ finishUndo r (some w) = record { answer = Done 0 false 0; bytes = front w r }
 abbrev pub nobody : ℕ
 nobody = 0xFFFFFFFF
 
+-- limits and rule in range, and room enough
+unfoldable pub startOk : ℕ → ℕ → ℕ → ℕ → Bool
+startOk n s rule room = limitsOk n s && (ruleOk rule && leb (roomFor n s) room)
+
 -- start: 12, then the default list by 1 to 5, then 8
 unfoldable pub startTo : ℕ → ℕ → ℕ → Mapping → Optional → List ℕ → Outcome
 startTo n s rule m default r =
-    need (limitsOk n s) 12 r
-    (need (ruleOk rule) 12 r
-    (need (leb (roomFor n s) (length r)) 12 r
+    need (startOk n s rule (length r)) 12 r
     (readable default 3 r
     (need (short default) 8 r
-    (record { answer = Done 0 false 0; bytes = front (emptyRoom n s rule m default) r })))))
+    (record { answer = Done 0 false 0; bytes = front (emptyRoom n s rule m default) r })))
 
 -- add: 13, 9, 10, 1 to 5, 6, 8
 unfoldable pub addTo : New → List ℕ → Outcome
@@ -152,11 +159,7 @@ tested (owners o g) r rest = need (ordinary o) 6 r (need (ordinary g) 6 r rest)
 
 -- any other change: 13, 9, 1 to 5, 6, 8
 unfoldable pub alterTo : ℕ → Edit → List ℕ → Outcome
-alterTo i e r =
-    need (formed r) 13 r
-    (need (ltb i (objects r)) 9 r
-    (tested e r
-    (finish i r (changed 2 i (editAt e) (editBytes e) (objects r) (area r)))))
+alterTo i e r = onObject r i r (tested e r (finish i r (changed 2 i (editAt e) (editBytes e) (objects r) (area r))))
 
 -- undo: 13, 11, 8
 unfoldable pub undoTo : List ℕ → Outcome
@@ -172,23 +175,36 @@ bytesIf (present s) = s
 unfoldable pub copied : Answer → List ℕ → List ℕ → Outcome
 copied a b out = need (leb (length b) (length out)) 8 out (record { answer = a; bytes = front b out })
 
-unfoldable pub readTo : List ℕ → ℕ → List ℕ → Outcome → Outcome
-readTo r i out rest = need (formed r) 13 out (need (ltb i (objects r)) 9 out rest)
-
 -- a computed list, and an own list
 unfoldable pub listTo : ℕ → List ℕ → List ℕ → Outcome
-listTo i r out = readTo r i out (copied (told (held (slot i r))) (bytesIf (held (slot i r))) out)
+listTo i r out = onObject r i out (copied (told (held (slot i r))) (bytesIf (held (slot i r))) out)
 
 unfoldable pub ownTo : ℕ → List ℕ → List ℕ → Outcome
-ownTo i r out = readTo r i out (copied (told (ownList (own i r))) (bytesIf (ownList (own i r))) out)
+ownTo i r out = onObject r i out (copied (told (ownList (own i r))) (bytesIf (ownList (own i r))) out)
 
 -- own data but for the list: parent, kind, mark, type, owner and group, each with its length in front
 unfoldable pub dataOf : List ℕ → List ℕ
 dataOf b = part 0 19 b ++ ((length (ownerOf b) ∷ ownerOf b) ++ (length (groupOf b) ∷ groupOf b))
 
 unfoldable pub dataTo : ℕ → List ℕ → List ℕ → Outcome
-dataTo i r out = readTo r i out (copied (Done (length (dataOf (own i r))) true 0) (dataOf (own i r)) out)
+dataTo i r out = onObject r i out (copied (Done (length (dataOf (own i r))) true 0) (dataOf (own i r)) out)
 
 -- how many objects stand and how many steps are kept
 unfoldable pub countsTo : List ℕ → Answer
 countsTo r = cond (formed r) (Done (objects r) true (kept r)) (Refused 13 0 0)
+
+-- ---- how the code finds a refusal: its number, 0 for none. Only private functions' contracts cite what follows
+
+unfoldable pub objectFault : List ℕ → ℕ → ℕ
+objectFault r i = cond (formed r) (cond (ltb i (objects r)) 0 9) 13
+
+unfoldable pub addFault : List ℕ → ℕ → ℕ
+addFault r p = cond (formed r) (cond (placed nobody (λ j. own j r) (objects r) p) (cond (ltb (objects r) (limit r)) 0 10) 9) 13
+
+unfoldable pub faultBy : Reading → Fault
+faultBy (Read len n) = record { number = 0; offset = 0 }
+faultBy (Unread k at) = record { number = k; offset = at }
+
+unfoldable pub faultOf : Optional → Fault
+faultOf absent = record { number = 0; offset = 0 }
+faultOf (present s) = faultBy (checkOf access s)

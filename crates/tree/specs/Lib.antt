@@ -5,3 +5,4 @@ pub mod Work
 pub mod Calls
 pub mod History
 pub mod Replay
+pub mod Played

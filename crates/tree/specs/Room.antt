@@ -37,10 +37,10 @@ abbrev pub roomFor : ℕ → ℕ → ℕ
 roomFor n s = 1048 + n * 2211 + s * 1186
 
 -- what the public call gives: the formula, 0 where a limit is out of range
-abbrev pub limitsOk : ℕ → ℕ → Bool
+unfoldable pub limitsOk : ℕ → ℕ → Bool
 limitsOk n s = leb 1 n && (leb n 64 && leb s 64)
 
-abbrev pub roomOf : ℕ → ℕ → ℕ
+unfoldable pub roomOf : ℕ → ℕ → ℕ
 roomOf n s = cond (limitsOk n s) (roomFor n s) 0
 
 -- the settings: rule, mapping, default list

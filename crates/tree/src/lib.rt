@@ -1,9 +1,46 @@
 // A tree of objects with undo, kept as bytes in a lent room (docs/ROOM.md).
 ghost use mathlib.Core.Path.{_≡_};
+ghost use mathlib.Core.Bool.{true, false};
+ghost use Prim.Native.Nat.{_≤_};
+ghost use lib.ListN.{length};
+ghost use Rattle.list.specs.Bytes.{front};
+ghost use Rattle.inherit.specs.Given.{lent};
+ghost use Rattle.tree.specs.Held.{held};
+ghost use Rattle.tree.specs.Room.{roomFor, roomOf, emptyRoom};
+ghost use Rattle.tree.specs.Calls.{list as Edit·list, mark as Edit·mark, owners as Edit·owners, short as Calls·short, told as Calls·told, startOk, bytesIf, dataOf, copied, startTo, addTo, alterTo, undoTo, listTo, ownTo, dataTo, countsTo};
+ghost use Rattle.tree.specs.declared.Answer.the-variants.{Done as Answer·Done, Refused as Answer·Refused};
+use changes::change;
+use changes::take_back;
+use formed::formed;
+use formed::rule_ok;
+use held::bytes_in;
+use held::has_list;
+use held::id_in;
+use held::number_in;
+use held::ordinary;
+use held::told;
+use inherit::Mapping;
+use list::part_of;
+use places::own;
+use places::slot;
+use tests::add_fault;
+use tests::fault_of;
+use tests::object_fault;
+use tests::short;
+use writes::bit;
+use writes::lay;
+use writes::lay_new;
+use writes::lay_owners;
+use writes::lay_settings;
+use writes::lay_slot;
+use writes::zero;
+
+mod changes;
 mod formed;
 mod held;
 mod places;
 mod steps;
+mod tests;
 mod work;
 mod writes;
 
@@ -19,4 +56,328 @@ pub enum Answer {
         list: u8,
         offset: u16,
     },
+}
+
+// A refusal that concerns no list.
+fn refused(number: u8) -> Answer
+    ensures { λ a. ⌜ a ≡ Answer·Refused number 0 0 ⌝ }
+{
+    Answer::Refused {
+        number,
+        list: 0,
+        offset: 0,
+    }
+}
+
+// Done, with nothing to tell.
+fn zeros() -> Answer
+    ensures { λ a. ⌜ a ≡ Answer·Done 0 false 0 ⌝ }
+{
+    Answer::Done {
+        length: 0,
+        present: false,
+        count: 0,
+    }
+}
+
+// How many bytes of room a tree needs; 0 where a limit is out of range.
+pub fn room(objects: u32, steps: u32) -> usize
+    ensures { λ n. ⌜ n ≡ roomOf objects steps ⌝ }
+{
+    if objects < 1 {
+        return 0;
+    }
+    if 64 < objects {
+        return 0;
+    }
+    if 64 < steps {
+        return 0;
+    }
+    1048 + objects as usize * 2211 + steps as usize * 1186
+}
+
+fn start_ok(objects: u32, steps: u32, rule: u32, long: usize) -> bool
+    ensures { λ b. ⌜ b ≡ startOk objects steps rule long ⌝ }
+{
+    let need = room(objects, steps);
+    if need == 0 {
+        return false;
+    }
+    if !rule_ok(rule) {
+        return false;
+    }
+    need <= long
+}
+
+// An empty tree's bytes.
+fn empty(
+    r: &mut [u8],
+    objects: usize,
+    steps: usize,
+    rule: u8,
+    m: Mapping,
+    has: bool,
+    default: &[u8],
+)
+    requires { ⌜ (objects ≤ 64) × ((steps ≤ 64) × ((Calls·short (lent has (now default)) ≡ true) × (roomFor objects steps ≤ length (now r)))) ⌝ }
+    ensures { λ _. ⌜ now (r .exit) ≡ front (emptyRoom objects steps rule m (lent has (now (default .entry)))) (now (r .entry)) ⌝ }
+{
+    r[0] = objects as u8;
+    r[1] = steps as u8;
+    r[2] = 0;
+    r[3] = 0;
+    lay_settings(r, 4, rule, m, has, default);
+    zero(r, 1048, objects * 2211 + steps * 1186);
+}
+
+// Starts a tree: object limit 1 to 64, step limit 0 to 64, rule, mapping, a default list or none.
+pub fn start(
+    room: &mut [u8],
+    objects: u32,
+    steps: u32,
+    rule: u32,
+    mapping: Mapping,
+    has: bool,
+    default: &[u8],
+) -> Answer
+    ensures { λ a. ⌜ (a ≡ startTo objects steps rule mapping (lent has (now (default .entry))) (now (room .entry)) .answer) × (now (room .exit) ≡ startTo objects steps rule mapping (lent has (now (default .entry))) (now (room .entry)) .bytes) ⌝ }
+{
+    if !start_ok(objects, steps, rule, room.len()) {
+        return refused(12);
+    }
+    let f = fault_of(has, default);
+    if f.number != 0 {
+        return Answer::Refused {
+            number: f.number,
+            list: 3,
+            offset: f.offset,
+        };
+    }
+    if !short(has, default) {
+        return refused(8);
+    }
+    empty(
+        room,
+        objects as usize,
+        steps as usize,
+        rule as u8,
+        mapping,
+        has,
+        default,
+    );
+    zeros()
+}
+
+// Adds an object below a parent (0xFFFFFFFF: none).
+pub fn add(
+    room: &mut [u8],
+    parent: u32,
+    container: bool,
+    mark: bool,
+    kind: [u8; 16],
+    owner: &[u8],
+    group: &[u8],
+    has: bool,
+    list: &[u8],
+) -> Answer
+    ensures { λ a. ⌜ (a ≡ addTo (record { parent = parent; container = container; mark = mark; type = kind; owner = now (owner .entry); group = now (group .entry); list = lent has (now (list .entry)) }) (now (room .entry)) .answer) × (now (room .exit) ≡ addTo (record { parent = parent; container = container; mark = mark; type = kind; owner = now (owner .entry); group = now (group .entry); list = lent has (now (list .entry)) }) (now (room .entry)) .bytes) ⌝ }
+{
+    let k = add_fault(room, parent as usize);
+    if k != 0 {
+        return refused(k);
+    }
+    let f = fault_of(has, list);
+    if f.number != 0 {
+        return Answer::Refused {
+            number: f.number,
+            list: 2,
+            offset: f.offset,
+        };
+    }
+    if !ordinary(owner) {
+        return refused(6);
+    }
+    if !ordinary(group) {
+        return refused(6);
+    }
+    if !short(has, list) {
+        return refused(8);
+    }
+    let n = number_in(room, 2);
+    let mut b = [0u8; 1184];
+    lay_new(
+        &mut b,
+        parent as usize,
+        container,
+        mark,
+        kind,
+        owner,
+        group,
+        has,
+        list,
+    );
+    change(room, 1, n, 0, &b, n + 1)
+}
+
+// Sets an object's own list, or removes it.
+pub fn set_list(room: &mut [u8], object: u32, has: bool, list: &[u8]) -> Answer
+    ensures { λ a. ⌜ (a ≡ alterTo object (Edit·list (lent has (now (list .entry)))) (now (room .entry)) .answer) × (now (room .exit) ≡ alterTo object (Edit·list (lent has (now (list .entry)))) (now (room .entry)) .bytes) ⌝ }
+{
+    let i = object as usize;
+    let k = object_fault(room, i);
+    if k != 0 {
+        return refused(k);
+    }
+    let f = fault_of(has, list);
+    if f.number != 0 {
+        return Answer::Refused {
+            number: f.number,
+            list: 2,
+            offset: f.offset,
+        };
+    }
+    if !short(has, list) {
+        return refused(8);
+    }
+    let n = number_in(room, 2);
+    let mut b = [0u8; 1027];
+    lay_slot(&mut b, 0, has, list);
+    change(room, 2, i, 157, &b, n)
+}
+
+// Sets an object's protected mark.
+pub fn set_mark(room: &mut [u8], object: u32, mark: bool) -> Answer
+    ensures { λ a. ⌜ (a ≡ alterTo object (Edit·mark mark) (now (room .entry)) .answer) × (now (room .exit) ≡ alterTo object (Edit·mark mark) (now (room .entry)) .bytes) ⌝ }
+{
+    let i = object as usize;
+    let k = object_fault(room, i);
+    if k != 0 {
+        return refused(k);
+    }
+    let n = number_in(room, 2);
+    let b = [bit(mark)];
+    change(room, 2, i, 2, &b, n)
+}
+
+// Sets an object's owner and group.
+pub fn set_owner(room: &mut [u8], object: u32, owner: &[u8], group: &[u8]) -> Answer
+    ensures { λ a. ⌜ (a ≡ alterTo object (Edit·owners (now (owner .entry)) (now (group .entry))) (now (room .entry)) .answer) × (now (room .exit) ≡ alterTo object (Edit·owners (now (owner .entry)) (now (group .entry))) (now (room .entry)) .bytes) ⌝ }
+{
+    let i = object as usize;
+    let k = object_fault(room, i);
+    if k != 0 {
+        return refused(k);
+    }
+    if !ordinary(owner) {
+        return refused(6);
+    }
+    if !ordinary(group) {
+        return refused(6);
+    }
+    let n = number_in(room, 2);
+    let mut b = [0u8; 138];
+    lay_owners(&mut b, 0, owner, group);
+    change(room, 2, i, 19, &b, n)
+}
+
+// Takes off the latest change not yet undone.
+pub fn undo(room: &mut [u8]) -> Answer
+    ensures { λ a. ⌜ (a ≡ undoTo (now (room .entry)) .answer) × (now (room .exit) ≡ undoTo (now (room .entry)) .bytes) ⌝ }
+{
+    if !formed(room) {
+        return refused(13);
+    }
+    if number_in(room, 3) == 0 {
+        return refused(11);
+    }
+    take_back(room)
+}
+
+// A slot's list on the front of out.
+fn give_list(s: &[u8], out: &mut [u8]) -> Answer
+    ensures { λ a. ⌜ (a ≡ copied (Calls·told (held (now (s .entry)))) (bytesIf (held (now (s .entry)))) (now (out .entry)) .answer) × (now (out .exit) ≡ copied (Calls·told (held (now (s .entry)))) (bytesIf (held (now (s .entry)))) (now (out .entry)) .bytes) ⌝ }
+{
+    if !has_list(s) {
+        return told(s);
+    }
+    let b = bytes_in(s);
+    if out.len() < b.len() {
+        return refused(8);
+    }
+    list::put(out, b);
+    told(s)
+}
+
+// An object's computed list.
+pub fn list_of(room: &[u8], object: u32, out: &mut [u8]) -> Answer
+    ensures { λ a. ⌜ (a ≡ listTo object (now (room .entry)) (now (out .entry)) .answer) × (now (out .exit) ≡ listTo object (now (room .entry)) (now (out .entry)) .bytes) ⌝ }
+{
+    let i = object as usize;
+    let k = object_fault(room, i);
+    if k != 0 {
+        return refused(k);
+    }
+    give_list(slot(room, i), out)
+}
+
+// An object's own list.
+pub fn own_of(room: &[u8], object: u32, out: &mut [u8]) -> Answer
+    ensures { λ a. ⌜ (a ≡ ownTo object (now (room .entry)) (now (out .entry)) .answer) × (now (out .exit) ≡ ownTo object (now (room .entry)) (now (out .entry)) .bytes) ⌝ }
+{
+    let i = object as usize;
+    let k = object_fault(room, i);
+    if k != 0 {
+        return refused(k);
+    }
+    give_list(part_of(own(room, i), 157, 1027), out)
+}
+
+// Own data but for the list, on the front of out.
+fn give_data(b: &[u8], out: &mut [u8]) -> Answer
+    requires { ⌜ 19 ≤ length (now b) ⌝ }
+    ensures { λ a. ⌜ (a ≡ copied (Answer·Done (length (dataOf (now (b .entry)))) true 0) (dataOf (now (b .entry))) (now (out .entry)) .answer) × (now (out .exit) ≡ copied (Answer·Done (length (dataOf (now (b .entry)))) true 0) (dataOf (now (b .entry))) (now (out .entry)) .bytes) ⌝ }
+{
+    let owner = id_in(part_of(b, 19, 69));
+    let group = id_in(part_of(b, 88, 69));
+    let n = owner.len();
+    let m = group.len();
+    if out.len() < 21 + n + m {
+        return refused(8);
+    }
+    lay(out, 0, part_of(b, 0, 19));
+    out[19] = n as u8;
+    lay(out, 20, owner);
+    out[20 + n] = m as u8;
+    lay(out, 21 + n, group);
+    Answer::Done {
+        length: (21 + n + m) as u16,
+        present: true,
+        count: 0,
+    }
+}
+
+// An object's own data but for its list.
+pub fn data_of(room: &[u8], object: u32, out: &mut [u8]) -> Answer
+    ensures { λ a. ⌜ (a ≡ dataTo object (now (room .entry)) (now (out .entry)) .answer) × (now (out .exit) ≡ dataTo object (now (room .entry)) (now (out .entry)) .bytes) ⌝ }
+{
+    let i = object as usize;
+    let k = object_fault(room, i);
+    if k != 0 {
+        return refused(k);
+    }
+    give_data(own(room, i), out)
+}
+
+// How many objects stand, and how many steps are kept.
+pub fn counts(room: &[u8]) -> Answer
+    ensures { λ a. ⌜ a ≡ countsTo (now (room .entry)) ⌝ }
+{
+    if !formed(room) {
+        return refused(13);
+    }
+    Answer::Done {
+        length: number_in(room, 2) as u16,
+        present: true,
+        count: number_in(room, 3) as u16,
+    }
 }

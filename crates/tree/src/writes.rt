@@ -127,14 +127,7 @@ pub(crate) fn lay_word(w: &mut [u8], at: usize, m: u32)
 }
 
 // The settings: rule, mapping, default list.
-pub(crate) fn lay_settings(
-    w: &mut [u8],
-    at: usize,
-    rule: u8,
-    m: Mapping,
-    has: bool,
-    default: &[u8],
-)
+pub(crate) fn lay_settings(w: &mut [u8], at: usize, rule: u8, m: Mapping, has: bool, default: &[u8])
     requires { ⌜ (short (lent has (now default)) ≡ true) × (at + 1044 ≤ length (now w)) ⌝ }
     ensures { λ _. ⌜ now (w .exit) ≡ putAt at (settingsFor rule m (lent has (now (default .entry)))) (now (w .entry)) ⌝ }
 {

@@ -8,7 +8,7 @@ use crate::cases::build::{
 };
 use crate::cases::inherit::fresh::{mapping, not_looked_at, ordinary_sid, related_guids};
 use crate::cases::inherit::refusals::{bad_lists, bad_sids};
-use crate::list::Guid;
+use crate::list::{Guid, HEADER_LENGTH};
 use crate::random::Random;
 use crate::tree::{Add, Call, Calls, Change, LONGEST_LIST, NO_PARENT, Object, Part, Start, traits};
 
@@ -27,6 +27,10 @@ pub struct Palette {
 impl Palette {
     pub fn draw(random: &mut Random) -> Palette {
         let heavy = random.chance(2, 5);
+        Palette::of_weight(random, heavy)
+    }
+
+    pub fn of_weight(random: &mut Random, heavy: bool) -> Palette {
         let mut sids: Vec<Vec<u8>> = (0..4).map(|_| ordinary_sid(random)).collect();
         sids.push(nt_sid(&[18]));
         if heavy {
@@ -87,18 +91,25 @@ impl Palette {
         }
     }
 
-    /// Placeholders and other entries, up to the greatest length or, rarely,
-    /// past it.
+    /// Placeholders and other entries. As often as not an owner that is a
+    /// little longer takes it past the limit; rarely it is past it.
     fn long_list(&self, random: &mut Random) -> Vec<u8> {
-        let flags = *random.pick(&[0x00, 0x01, 0x02, 0x03, 0x07, 0x13]);
-        if random.chance(1, 4) {
+        let flags = *random.pick(&[0x00, 0x00, 0x01, 0x02, 0x03, 0x07, 0x13]);
+        if random.chance(1, 8) {
             return list_of_length(flags, LONGEST_LIST + 4 - 4 * random.below(16));
         }
-        let length = 200 + 4 * random.below(150);
-        let mut plans = entries_of(flags, length);
-        for _ in 0..random.below(5) {
+        let placeholders = random.below(6);
+        let others = if random.chance(1, 2) {
+            LONGEST_LIST - HEADER_LENGTH - 20 * placeholders - 4 * random.below(30)
+        } else {
+            200 + 4 * random.below(150)
+        };
+        let mut plans = entries_of(flags, others);
+        let flags = if random.chance(1, 2) { flags } else { 0 };
+        for _ in 0..placeholders {
             let at = random.below(plans.len() + 1);
-            plans.insert(at, EntryPlan::plain(0, flags, creator_sid(0)));
+            let sid = creator_sid(random.below(2) as u32);
+            plans.insert(at, EntryPlan::plain(0, flags, sid));
         }
         good_list(&plans)
     }

@@ -21,7 +21,14 @@ fn another(number: u32, chained: bool) -> Add {
     match (number, chained) {
         (0, _) => root(CONTAINER).with_list(of_creator(0x03)),
         (_, true) => below(number - 1, CONTAINER),
-        (_, false) => below(0, if number % 2 == 0 { CONTAINER } else { LEAF }),
+        (_, false) => below(
+            0,
+            if number.is_multiple_of(2) {
+                CONTAINER
+            } else {
+                LEAF
+            },
+        ),
     }
 }
 

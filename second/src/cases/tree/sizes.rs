@@ -57,7 +57,7 @@ fn given(rule: u32) -> Vec<Call> {
 /// length wanted.
 fn doubled_to(length: usize) -> Vec<u8> {
     const ONCE: usize = 20;
-    let odd = (length - 8) % 8 != 0;
+    let odd = !(length - 8).is_multiple_of(8);
     let once = if odd { ONCE } else { ONCE + 4 };
     let mut plans = entries_of(0x06, once);
     plans.extend(entries_of(0x02, (length - 8 - once) / 2));

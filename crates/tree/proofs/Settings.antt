@@ -1,0 +1,66 @@
+-- What the settings hold: the rule, the mapping and the default list that they were made of; and when they are good.
+use mathlib.Core.Path.{_≡_, refl, ap, _∙_}
+use mathlib.Core.Bool.{true}
+use mathlib.Core.List.{List, [], _∷_, _++_}
+use Prim.Native.Nat.{ℕ, _≤_, _<_}
+use native.Mathlib.Omega.{arith}
+use lib.ListN.{length, length-append}
+use Rattle.list.specs.Bytes.{le, spell}
+use Rattle.list.proofs.Little.{le-append, le-spell, length-spell}
+use Rattle.inherit.specs.declared.Mapping.{Mapping}
+use Rattle.inherit.specs.Given.{Optional}
+use Rattle.inherit.specs.Compute.{ruleOk}
+use Rattle.tree.specs.Held.{held, slotFor}
+use Rattle.tree.specs.Room.{ruleOf, mappingOf, defaultSlot, defaultOf, settingsFor}
+use Rattle.tree.specs.Formed.{settingsOk}
+use Rattle.tree.specs.Calls.{short}
+use Rattle.tree.specs.Replay.{reads}
+use Rattle.tree.proofs.Slots.{slot-length, held-slot, slot-good}
+use Rattle.tree.proofs.Blocks.{part-all, part-past}
+
+word : (x : ℕ) (q : List ℕ) → x < 0x100000000 → le 4 (spell 4 x ++ q) ≡ x
+word x q h =
+    let k : 4 ≤ length (spell 4 x) = rw length-spell (omega arith) in
+    le-append 4 (spell 4 x) q k ∙ le-spell 4 x h
+
+module _ (rule : ℕ) (m : Mapping) (default : Optional) where
+  pub rule-of : ruleOf (settingsFor rule m default) ≡ rule
+  unfolding settingsFor
+  rule-of = refl
+
+  pub mapping-of : m .read < 0x100000000 → m .write < 0x100000000 → m .execute < 0x100000000 → m .all < 0x100000000
+      → mappingOf (settingsFor rule m default) ≡ m
+  unfolding settingsFor spell
+  mapping-of r w x a =
+      let c = slotFor default in
+      let d = spell 4 (m .all) ++ c in
+      let e = spell 4 (m .execute) ++ d in
+      let f = spell 4 (m .write) ++ e in
+      rw (word (m .read) f r, word (m .write) e w, word (m .execute) d x, word (m .all) c a) refl
+
+  module _ (s : short default ≡ true) where
+    pub settings-length : length (settingsFor rule m default) ≡ 1044
+    unfolding settingsFor
+    settings-length = simp (length-append, length-spell, slot-length default s)
+
+    pub default-slot : defaultSlot (settingsFor rule m default) ≡ slotFor default
+    unfolding settingsFor
+    default-slot =
+        let c = slotFor default in
+        let d = spell 4 (m .all) ++ c in
+        let e = spell 4 (m .execute) ++ d in
+        let f = spell 4 (m .write) ++ e in
+        let g = spell 4 (m .read) ++ f in
+        part-past 1 16 1027 (rule ∷ []) g refl
+        ∙ part-past 4 12 1027 (spell 4 (m .read)) f (length-spell 4 (m .read))
+        ∙ part-past 4 8 1027 (spell 4 (m .write)) e (length-spell 4 (m .write))
+        ∙ part-past 4 4 1027 (spell 4 (m .execute)) d (length-spell 4 (m .execute))
+        ∙ part-past 4 0 1027 (spell 4 (m .all)) c (length-spell 4 (m .all))
+        ∙ part-all 1027 c (slot-length default s)
+
+    pub default-of : defaultOf (settingsFor rule m default) ≡ default
+    default-of = ap held default-slot ∙ held-slot default s
+
+    pub settings-good : ruleOk rule ≡ true → reads default ≡ true → settingsOk (settingsFor rule m default) ≡ true
+    unfolding settingsOk
+    settings-good h r = rw (rule-of, default-slot, h) (slot-good default s r)

@@ -1,0 +1,37 @@
+-- The calls that change a tree, one after another, as their promises have them.
+use mathlib.Core.Bool.{Bool, true, false}
+use mathlib.Core.List.{List, [], _∷_}
+use mathlib.Core.Path.{_≡_}
+use Prim.Native.Nat.{ℕ}
+use lib.ListN.{length}
+use Rattle.tree.specs.Held.{New}
+use Rattle.tree.specs.declared.Answer.{Answer}
+use Rattle.tree.specs.declared.Answer.the-variants.{Done, Refused}
+use Rattle.tree.specs.Calls.{Outcome, addTo, alterTo, undoTo}
+use Rattle.tree.specs.History.{Call, edit, undo}
+use Rattle.tree.specs.Replay.{Change, add, alter}
+
+unfoldable pub callTo : Call Change → List ℕ → Outcome
+callTo (edit (add new)) r = addTo new r
+callTo (edit (alter i e)) r = alterTo i e r
+callTo undo r = undoTo r
+
+-- answer 0
+abbrev pub accepted : Answer → Bool
+accepted (Done len is n) = true
+accepted (Refused k which at) = false
+
+-- the room after calls, the latest first
+unfoldable pub played : List (Call Change) → List ℕ → List ℕ
+played [] r = r
+played (q ∷ qs) r = callTo q (played qs r) .bytes
+
+-- calls whose GUIDs are sixteen bytes, as every program's are
+abbrev pub Proper : Call Change → Type 0
+Proper (edit (add new)) = length (new .type) ≡ 16
+Proper (edit (alter i e)) = Unit
+Proper undo = Unit
+
+abbrev pub Propers : List (Call Change) → Type 0
+Propers [] = Unit
+Propers (q ∷ qs) = Proper q × Propers qs

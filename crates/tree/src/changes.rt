@@ -1,0 +1,130 @@
+// Changes and undo: made on a copy of the room's area, which takes its place where every list could be worked out.
+ghost use mathlib.Core.Path.{_≡_};
+ghost use mathlib.Core.Bool.{true};
+ghost use mathlib.Core.Option.{some};
+ghost use Prim.Native.Nat.{_+_, _≤_, _<_};
+ghost use lib.ListN.{length};
+ghost use Rattle.tree.specs.Room.{limit, depth, kept, numberOf, roomFor, area};
+ghost use Rattle.tree.specs.Formed.{Head};
+ghost use Rattle.tree.specs.Calls.{changed, latest, left, undone, finish, finishUndo};
+ghost use Rattle.tree.specs.History.{isSome};
+use crate::Answer;
+use crate::formed::standing;
+use crate::held::number_in;
+use crate::held::told;
+use crate::places::slot;
+use crate::places::step;
+use crate::steps::pop;
+use crate::steps::push;
+use crate::work::settle;
+use list::part_of;
+
+// How much of the room its limits take up.
+fn area_of(r: &[u8]) -> usize
+    ensures { λ n. ⌜ n ≡ roomFor (limit (now (r .entry))) (depth (now (r .entry))) ⌝ }
+{
+    1048 + number_in(r, 0) * 2211 + number_in(r, 1) * 1186
+}
+
+// The room's area to w, with object i changed.
+fn change_copy(
+    r: &[u8],
+    w: &mut [u8],
+    out: &mut [u8],
+    tag: u8,
+    i: usize,
+    at: usize,
+    b: &[u8],
+    n: usize,
+) -> bool
+    requires { ⌜ Head (now r) × ((length (now w) ≡ roomFor (limit (now r)) (depth (now r))) × (length (now out) ≡ 1024)) ⌝ }
+    requires { ⌜ (i < limit (now r)) × ((n ≤ limit (now r)) × (at + length (now b) ≤ 1184)) ⌝ }
+    ensures { λ ok. ⌜ (ok ≡ isSome (changed tag i at (now (b .entry)) n (area (now (r .entry))))) × ((ok ≡ true → changed tag i at (now (b .entry)) n (area (now (r .entry))) ≡ some (now (w .exit)))) ⌝ }
+{
+    push(r, w, tag, i);
+    settle(w, out, 1048 + i * 2211 + at, b, n)
+}
+
+fn change_in(
+    r: &mut [u8],
+    w: &mut [u8],
+    out: &mut [u8],
+    tag: u8,
+    i: usize,
+    at: usize,
+    b: &[u8],
+    n: usize,
+) -> Answer
+    requires { ⌜ Head (now r) × ((length (now w) ≡ roomFor (limit (now r)) (depth (now r))) × (length (now out) ≡ 1024)) ⌝ }
+    requires { ⌜ (i < limit (now r)) × ((n ≤ limit (now r)) × (at + length (now b) ≤ 1184)) ⌝ }
+    ensures { λ a. ⌜ (a ≡ finish i (now (r .entry)) (changed tag i at (now (b .entry)) n (area (now (r .entry)))) .answer) × (now (r .exit) ≡ finish i (now (r .entry)) (changed tag i at (now (b .entry)) n (area (now (r .entry)))) .bytes) ⌝ }
+{
+    if change_copy(r, w, out, tag, i, at, b, n) {
+        list::put(r, w);
+        return told(slot(w, i));
+    }
+    Answer::Refused {
+        number: 8,
+        list: 0,
+        offset: 0,
+    }
+}
+
+// Puts b at a place of object i's own data, n objects standing then: a change, unless a list would pass 1,024 bytes.
+pub(crate) fn change(r: &mut [u8], tag: u8, i: usize, at: usize, b: &[u8], n: usize) -> Answer
+    requires { ⌜ Head (now r) × ((i < limit (now r)) × ((n ≤ limit (now r)) × (at + length (now b) ≤ 1184))) ⌝ }
+    ensures { λ a. ⌜ (a ≡ finish i (now (r .entry)) (changed tag i at (now (b .entry)) n (area (now (r .entry)))) .answer) × (now (r .exit) ≡ finish i (now (r .entry)) (changed tag i at (now (b .entry)) n (area (now (r .entry)))) .bytes) ⌝ }
+{
+    let end = area_of(r);
+    let mut w = [0u8; 218456];
+    let mut out = [0u8; 1024];
+    change_in(r, &mut w[0..end], &mut out[0..1024], tag, i, at, b, n)
+}
+
+// The room's area to w, with the latest change undone.
+fn undo_copy(r: &[u8], w: &mut [u8], out: &mut [u8]) -> bool
+    requires { ⌜ Head (now r) × ((length (now w) ≡ roomFor (limit (now r)) (depth (now r))) × (length (now out) ≡ 1024)) ⌝ }
+    requires { ⌜ (0 < kept (now r)) × (numberOf (latest (now r)) < limit (now r)) ⌝ }
+    ensures { λ ok. ⌜ (ok ≡ isSome (undone (area (now (r .entry))))) × ((ok ≡ true → undone (area (now (r .entry))) ≡ some (now (w .exit)))) ⌝ }
+{
+    pop(r, w);
+    let u = step(r, number_in(r, 0), 0);
+    settle(
+        w,
+        out,
+        1048 + number_in(u, 1) * 2211,
+        part_of(u, 2, 1184),
+        standing(number_in(r, 2), u),
+    )
+}
+
+fn undo_in(r: &mut [u8], w: &mut [u8], out: &mut [u8]) -> Answer
+    requires { ⌜ Head (now r) × ((length (now w) ≡ roomFor (limit (now r)) (depth (now r))) × (length (now out) ≡ 1024)) ⌝ }
+    requires { ⌜ (0 < kept (now r)) × (numberOf (latest (now r)) < limit (now r)) ⌝ }
+    ensures { λ a. ⌜ (a ≡ finishUndo (now (r .entry)) (undone (area (now (r .entry)))) .answer) × (now (r .exit) ≡ finishUndo (now (r .entry)) (undone (area (now (r .entry)))) .bytes) ⌝ }
+{
+    if undo_copy(r, w, out) {
+        list::put(r, w);
+        return Answer::Done {
+            length: 0,
+            present: false,
+            count: 0,
+        };
+    }
+    Answer::Refused {
+        number: 8,
+        list: 0,
+        offset: 0,
+    }
+}
+
+// Takes off the latest change, unless a list would pass 1,024 bytes.
+pub(crate) fn take_back(r: &mut [u8]) -> Answer
+    requires { ⌜ Head (now r) × ((0 < kept (now r)) × (numberOf (latest (now r)) < limit (now r))) ⌝ }
+    ensures { λ a. ⌜ (a ≡ finishUndo (now (r .entry)) (undone (area (now (r .entry)))) .answer) × (now (r .exit) ≡ finishUndo (now (r .entry)) (undone (area (now (r .entry)))) .bytes) ⌝ }
+{
+    let end = area_of(r);
+    let mut w = [0u8; 218456];
+    let mut out = [0u8; 1024];
+    undo_in(r, &mut w[0..end], &mut out[0..1024])
+}
