@@ -2,6 +2,7 @@
  *
  * Every call checks what it is handed, whatever bytes that is. A null pointer is allowed where its length is 0.
  * Lent ranges never overlap. Nothing that was lent changes where a call refuses; the answer itself is written always.
+ * The tree's calls that change it use some 240 KB of stack.
  *
  * An answer is eight numbers:
  *   0  the number: 0 done, or why the call refused (PT_..., below)
@@ -32,8 +33,13 @@ enum {
     PT_SID = 5,      /* SID first byte not 1, or n above 15, in an entry */
     PT_IDENTITY = 6, /* owner or group isn't exactly one SID, or is a placeholder */
     PT_TYPES = 7,    /* object types not a multiple of 16 bytes, or over 64 bytes */
-    PT_ROOM = 8,     /* no room: a result over the lent length or over 65,532 bytes; an index row too short */
-    PT_RULE = 12     /* rule out of range */
+    PT_ROOM = 8,     /* no room: a result over the lent length or over 65,532 bytes; an index row too short; in a tree a list
+                        given, or any list that the change or undo would compute, over 1,024 bytes */
+    PT_OBJECT = 9,   /* no such object; parent missing, not a container, or not as the first or later add asks */
+    PT_FULL = 10,    /* object limit reached */
+    PT_NO_STEP = 11, /* undo with no kept step */
+    PT_RULE = 12,    /* limits or rule out of range, or lent room under the formula */
+    PT_TREE = 13     /* the room handed in isn't a well-formed tree */
 };
 
 /* Settings of a computation: bits of a number. Other bits aren't looked at. */
@@ -64,6 +70,50 @@ void pt_compute(uint32_t rule, uint32_t settings, const uint32_t mapping[4],
                 const uint8_t *default_, size_t default_len, const uint8_t *types, size_t types_len,
                 const uint8_t *owner, size_t owner_len, const uint8_t *group, size_t group_len,
                 uint8_t *out, size_t out_len, uint32_t answer[8]);
+
+/* A tree of objects with undo, kept in a room of bytes that every call is lent (docs/ROOM.md has its layout).
+ * Bytes past pt_room's are never read or changed. A room that is no well-formed tree is 13, from every call but pt_start. */
+
+#define PT_NO_PARENT 0xFFFFFFFFu
+
+/* Traits of a new object: bits of a number. Other bits aren't looked at. */
+enum {
+    PT_IS_CONTAINER = 1,
+    PT_HAS_MARK = 2,   /* the protected mark */
+    PT_HAS_LIST = 4    /* an own list is given */
+};
+
+/* Bytes of room that a tree needs: object limit 1 to 64, step limit 0 to 64; 0 where a limit is out of range. */
+size_t pt_room(uint32_t objects, uint32_t steps);
+
+/* Starts a tree: limits, rule, mapping, and a default list where has_default isn't 0. What the room holds is not looked at;
+ * pt_room's bytes of it are written. Tests in order: 12, the default list 1 to 5 (list 3), 8. Answers zeros. */
+void pt_start(uint8_t *room, size_t room_len, uint32_t objects, uint32_t steps, uint32_t rule, const uint32_t mapping[4],
+              uint32_t has_default, const uint8_t *default_, size_t default_len, uint32_t answer[8]);
+
+/* Changes. Each that is accepted is one kept step, and answers its object's computed list: length, present or absent, count.
+ * Every computed list is worked out again from the root. Tests in order: 13, 9, 10, the list 1 to 5 (list 2), 6, 8.
+ * Objects are numbered from 0 in order of adding. parent: PT_NO_PARENT for the first object; a container for each later one. */
+void pt_add(uint8_t *room, size_t room_len, uint32_t parent, uint32_t traits, const uint8_t type[16],
+            const uint8_t *owner, size_t owner_len, const uint8_t *group, size_t group_len,
+            const uint8_t *list, size_t list_len, uint32_t answer[8]);
+void pt_set_list(uint8_t *room, size_t room_len, uint32_t object, uint32_t has_list,
+                 const uint8_t *list, size_t list_len, uint32_t answer[8]);
+void pt_set_mark(uint8_t *room, size_t room_len, uint32_t object, uint32_t mark, uint32_t answer[8]);
+void pt_set_owner(uint8_t *room, size_t room_len, uint32_t object, const uint8_t *owner, size_t owner_len,
+                  const uint8_t *group, size_t group_len, uint32_t answer[8]);
+
+/* Takes off the latest change not yet undone. Tests in order: 13, 11, 8 (8 only in a room that no calls reach). Answers zeros. */
+void pt_undo(uint8_t *room, size_t room_len, uint32_t answer[8]);
+
+/* Reading back, onto the front of out: the computed list, the own list, and own data but for the list (parent byte, FF none, kind,
+ * mark, 16 type bytes, owner length, owner, group length, group; its count is 0). Tests in order: 13, 9, 8. */
+void pt_list(const uint8_t *room, size_t room_len, uint32_t object, uint8_t *out, size_t out_len, uint32_t answer[8]);
+void pt_own(const uint8_t *room, size_t room_len, uint32_t object, uint8_t *out, size_t out_len, uint32_t answer[8]);
+void pt_data(const uint8_t *room, size_t room_len, uint32_t object, uint8_t *out, size_t out_len, uint32_t answer[8]);
+
+/* 13, or done with the objects that stand in place 3, 1 in place 4 and the kept steps in place 5. */
+void pt_counts(const uint8_t *room, size_t room_len, uint32_t answer[8]);
 
 #ifdef __cplusplus
 }

@@ -79,19 +79,6 @@ fn damage(random: &mut Random, found: &Found, room: &mut [u8]) {
             let at = places::step(found.limits.objects, number) + random.below(6);
             change(random, room, at);
         }
-        18 if objects > 0 => {
-            let at = *random.pick(&places::identities(found));
-            let sid = creator_sid(random.below(3) as u32);
-            room[at] = sid.len() as u8;
-            room[at + 1..at + 1 + sid.len()].copy_from_slice(&sid);
-        }
-        19 | 20 => change_limit(random, room),
-        21.. if objects > 0 => change_what_stays(random, found, room),
-        16.. if steps > 0 => {
-            let at = places::step(found.limits.objects, random.below(steps));
-            room[at] = *random.pick(&[0, 1, 1, 2, 2, 3]);
-            room[at + 1] = random.below(objects + 2) as u8;
-        }
         9 if steps > 1 => exchange_steps(random, found, room),
         10 if objects > 0 => copy_own_data(random, found, room),
         11 => {
@@ -111,6 +98,19 @@ fn damage(random: &mut Random, found: &Found, room: &mut [u8]) {
             let at = *random.pick(&places::identities(found)) + random.below(10);
             change(random, room, at);
         }
+        15..18 if steps > 0 => {
+            let at = places::step(found.limits.objects, random.below(steps));
+            room[at] = *random.pick(&[0, 1, 1, 2, 2, 3]);
+            room[at + 1] = random.below(objects + 2) as u8;
+        }
+        18 if objects > 0 => {
+            let at = *random.pick(&places::identities(found));
+            let sid = creator_sid(random.below(3) as u32);
+            room[at] = sid.len() as u8;
+            room[at + 1..at + 1 + sid.len()].copy_from_slice(&sid);
+        }
+        19 | 20 => change_limit(random, room),
+        21.. if objects > 0 => change_what_stays(random, found, room),
         _ => copy_list(random, found, room),
     }
 }

@@ -4,8 +4,8 @@
 use super::check::Ours;
 use crate::mutate::{mutate_identity, mutate_list};
 use second::cases::build::{creator_sid, random_list};
-use second::cases::tree::fresh::{Palette, object};
 use second::cases::tree::make;
+use second::cases::tree::palette::{Palette, object};
 use second::random::Random;
 use second::tree::{Add, Call, Calls, Change, LONGEST_LIST, Object, Part, Start, Tree, room};
 

@@ -1,7 +1,7 @@
 //! Rooms that hold a tree, most of them such as no calls reach.
 
 use super::places;
-use second::cases::tree::fresh::Palette;
+use second::cases::tree::palette::Palette;
 use second::random::Random;
 use second::room::{Found, Step, lay_out_over, length};
 use second::tree::{LONGEST_LIST, Limits, Object, Settings};

@@ -9,7 +9,7 @@ mod told;
 
 use crate::report::Report;
 use check::{Both, Ours};
-use second::cases::tree::fresh::Palette;
+use second::cases::tree::palette::Palette;
 use second::random::Random;
 use second::tree::{Call, Part};
 use told::Told;

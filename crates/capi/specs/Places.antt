@@ -1,11 +1,14 @@
 -- The eight 32-bit numbers in which a call answers, and arguments that are passed as numbers.
 use Prim.Native.Nat.{ℕ}
 use mathlib.Core.List.{List, [], _∷_}
+use mathlib.Core.Bool.{Bool, not}
 use lib.ListN.{getD}
+use lib.Dec.{eqb}
 use Rattle.list.specs.Answer.{Values}
-use Rattle.inherit.specs.Given.{has}
+use Rattle.inherit.specs.Given.{has, lent}
 use Rattle.inherit.specs.declared.Settings.{Settings}
 use Rattle.inherit.specs.declared.Mapping.{Mapping}
+use Rattle.tree.specs.Held.{New}
 
 -- document 01's values in their places; the last place is 0
 abbrev pub placesOf : Values → List ℕ
@@ -27,3 +30,20 @@ settingsOf bits =
 -- a mapping's four masks: read, write, execute, all
 abbrev pub mappingOf : List ℕ → Mapping
 mappingOf m = record { read = getD m 0 0; write = getD m 1 0; execute = getD m 2 0; all = getD m 3 0 }
+
+-- a flag that is passed as a number: yes where it isn't 0
+abbrev pub yesOf : ℕ → Bool
+yesOf n = not (eqb n 0)
+
+-- a new object's traits: 1 container, 2 protected mark, 4 an own list is given
+abbrev pub newOf : ℕ → ℕ → List ℕ → List ℕ → List ℕ → List ℕ → New
+newOf parent traits kind owner group list =
+    record {
+      parent = parent;
+      container = has 1 traits;
+      mark = has 2 traits;
+      type = kind;
+      owner = owner;
+      group = group;
+      list = lent (has 4 traits) list;
+    }

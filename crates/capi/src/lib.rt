@@ -6,12 +6,16 @@ ghost use Rattle.list.specs.Entry.{access};
 ghost use Rattle.list.specs.List.{readOf, rowBy};
 ghost use Rattle.list.specs.Answer.{answerOf};
 ghost use Rattle.inherit.specs.Given.{has as Given·has};
+ghost use Rattle.inherit.specs.Given.{lent};
 ghost use Rattle.inherit.specs.Compute.{valuesOf, answerFor, outFor};
-ghost use Rattle.capi.specs.Places.{placesOf, settingsOf, mappingOf};
+ghost use Rattle.tree.specs.Room.{roomOf};
+ghost use Rattle.tree.specs.Calls.{list as Edit·list, mark as Edit·mark, owners as Edit·owners, valuesOf as Calls·valuesOf, startTo, addTo, alterTo, undoTo, listTo, ownTo, dataTo, countsTo};
+ghost use Rattle.capi.specs.Places.{placesOf, settingsOf, mappingOf, yesOf, newOf};
 use inherit::Computed;
 use inherit::Mapping;
 use inherit::Settings;
 use list::Reading;
+use tree::Answer;
 
 // Document 01's values, each in its place.
 fn put_values(
@@ -155,4 +159,184 @@ pub extern "C" fn pt_compute<'a>(
             0,
         ),
     }
+}
+
+// The answer of a tree's call, in its places.
+fn put_answer(answer: &mut [u32; 8], a: Answer)
+    ensures { λ _. ⌜ now (answer .exit) ≡ placesOf (Calls·valuesOf a) ⌝ }
+{
+    match a {
+        Answer::Done {
+            length,
+            present,
+            count,
+        } => put_values(
+            answer,
+            0,
+            0,
+            0,
+            length as u32,
+            present as u32,
+            count as u32,
+            0,
+        ),
+        Answer::Refused {
+            number,
+            list,
+            offset,
+        } => put_values(
+            answer,
+            number as u32,
+            list as u32,
+            offset as u32,
+            0,
+            0,
+            0,
+            0,
+        ),
+    }
+}
+
+// Bytes of room that a tree needs; 0 where a limit is out of range.
+#[no_mangle]
+pub extern "C" fn pt_room(objects: u32, steps: u32) -> usize
+    ensures { λ n. ⌜ n ≡ roomOf objects steps ⌝ }
+{
+    tree::room(objects, steps)
+}
+
+// Starts a tree in a lent room.
+#[no_mangle]
+pub extern "C" fn pt_start(
+    room: &mut [u8],
+    objects: u32,
+    steps: u32,
+    rule: u32,
+    mapping: &[u32; 4],
+    given: u32,
+    default: &[u8],
+    answer: &mut [u32; 8],
+)
+    ensures answer { λ _. ⌜ now (answer .exit) ≡ placesOf (Calls·valuesOf (startTo objects steps rule (mappingOf (now (mapping .entry))) (lent (yesOf given) (now (default .entry))) (now (room .entry)) .answer)) ⌝ }
+    ensures room { λ _. ⌜ now (room .exit) ≡ startTo objects steps rule (mappingOf (now (mapping .entry))) (lent (yesOf given) (now (default .entry))) (now (room .entry)) .bytes ⌝ }
+{
+    let m = mapping_of(mapping);
+    put_answer(
+        answer,
+        tree::start(room, objects, steps, rule, m, given != 0, default),
+    );
+}
+
+// Adds an object. Parent: 0xFFFFFFFF for none. Traits: 1 container, 2 protected mark, 4 an own list is given.
+#[no_mangle]
+pub extern "C" fn pt_add(
+    room: &mut [u8],
+    parent: u32,
+    traits: u32,
+    kind: &[u8; 16],
+    owner: &[u8],
+    group: &[u8],
+    list: &[u8],
+    answer: &mut [u32; 8],
+)
+    ensures answer { λ _. ⌜ now (answer .exit) ≡ placesOf (Calls·valuesOf (addTo (newOf parent traits (now (kind .entry)) (now (owner .entry)) (now (group .entry)) (now (list .entry))) (now (room .entry)) .answer)) ⌝ }
+    ensures room { λ _. ⌜ now (room .exit) ≡ addTo (newOf parent traits (now (kind .entry)) (now (owner .entry)) (now (group .entry)) (now (list .entry))) (now (room .entry)) .bytes ⌝ }
+{
+    put_answer(
+        answer,
+        tree::add(
+            room,
+            parent,
+            has(traits, 1),
+            has(traits, 2),
+            *kind,
+            owner,
+            group,
+            has(traits, 4),
+            list,
+        ),
+    );
+}
+
+// Sets an object's own list, or removes it.
+#[no_mangle]
+pub extern "C" fn pt_set_list(
+    room: &mut [u8],
+    object: u32,
+    given: u32,
+    list: &[u8],
+    answer: &mut [u32; 8],
+)
+    ensures answer { λ _. ⌜ now (answer .exit) ≡ placesOf (Calls·valuesOf (alterTo object (Edit·list (lent (yesOf given) (now (list .entry)))) (now (room .entry)) .answer)) ⌝ }
+    ensures room { λ _. ⌜ now (room .exit) ≡ alterTo object (Edit·list (lent (yesOf given) (now (list .entry)))) (now (room .entry)) .bytes ⌝ }
+{
+    put_answer(answer, tree::set_list(room, object, given != 0, list));
+}
+
+// Sets an object's protected mark.
+#[no_mangle]
+pub extern "C" fn pt_set_mark(room: &mut [u8], object: u32, mark: u32, answer: &mut [u32; 8])
+    ensures answer { λ _. ⌜ now (answer .exit) ≡ placesOf (Calls·valuesOf (alterTo object (Edit·mark (yesOf mark)) (now (room .entry)) .answer)) ⌝ }
+    ensures room { λ _. ⌜ now (room .exit) ≡ alterTo object (Edit·mark (yesOf mark)) (now (room .entry)) .bytes ⌝ }
+{
+    put_answer(answer, tree::set_mark(room, object, mark != 0));
+}
+
+// Sets an object's owner and group.
+#[no_mangle]
+pub extern "C" fn pt_set_owner(
+    room: &mut [u8],
+    object: u32,
+    owner: &[u8],
+    group: &[u8],
+    answer: &mut [u32; 8],
+)
+    ensures answer { λ _. ⌜ now (answer .exit) ≡ placesOf (Calls·valuesOf (alterTo object (Edit·owners (now (owner .entry)) (now (group .entry))) (now (room .entry)) .answer)) ⌝ }
+    ensures room { λ _. ⌜ now (room .exit) ≡ alterTo object (Edit·owners (now (owner .entry)) (now (group .entry))) (now (room .entry)) .bytes ⌝ }
+{
+    put_answer(answer, tree::set_owner(room, object, owner, group));
+}
+
+// Takes off the latest change not yet undone.
+#[no_mangle]
+pub extern "C" fn pt_undo(room: &mut [u8], answer: &mut [u32; 8])
+    ensures answer { λ _. ⌜ now (answer .exit) ≡ placesOf (Calls·valuesOf (undoTo (now (room .entry)) .answer)) ⌝ }
+    ensures room { λ _. ⌜ now (room .exit) ≡ undoTo (now (room .entry)) .bytes ⌝ }
+{
+    put_answer(answer, tree::undo(room));
+}
+
+// An object's computed list.
+#[no_mangle]
+pub extern "C" fn pt_list(room: &[u8], object: u32, out: &mut [u8], answer: &mut [u32; 8])
+    ensures answer { λ _. ⌜ now (answer .exit) ≡ placesOf (Calls·valuesOf (listTo object (now (room .entry)) (now (out .entry)) .answer)) ⌝ }
+    ensures result { λ _. ⌜ now (out .exit) ≡ listTo object (now (room .entry)) (now (out .entry)) .bytes ⌝ }
+{
+    put_answer(answer, tree::list_of(room, object, out));
+}
+
+// An object's own list.
+#[no_mangle]
+pub extern "C" fn pt_own(room: &[u8], object: u32, out: &mut [u8], answer: &mut [u32; 8])
+    ensures answer { λ _. ⌜ now (answer .exit) ≡ placesOf (Calls·valuesOf (ownTo object (now (room .entry)) (now (out .entry)) .answer)) ⌝ }
+    ensures result { λ _. ⌜ now (out .exit) ≡ ownTo object (now (room .entry)) (now (out .entry)) .bytes ⌝ }
+{
+    put_answer(answer, tree::own_of(room, object, out));
+}
+
+// An object's own data but for its list, as the script's record 1 lays it out.
+#[no_mangle]
+pub extern "C" fn pt_data(room: &[u8], object: u32, out: &mut [u8], answer: &mut [u32; 8])
+    ensures answer { λ _. ⌜ now (answer .exit) ≡ placesOf (Calls·valuesOf (dataTo object (now (room .entry)) (now (out .entry)) .answer)) ⌝ }
+    ensures result { λ _. ⌜ now (out .exit) ≡ dataTo object (now (room .entry)) (now (out .entry)) .bytes ⌝ }
+{
+    put_answer(answer, tree::data_of(room, object, out));
+}
+
+// How many objects stand and how many steps are kept.
+#[no_mangle]
+pub extern "C" fn pt_counts(room: &[u8], answer: &mut [u32; 8])
+    ensures { λ _. ⌜ now (answer .exit) ≡ placesOf (Calls·valuesOf (countsTo (now (room .entry)))) ⌝ }
+{
+    put_answer(answer, tree::counts(room));
 }

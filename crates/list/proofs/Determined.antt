@@ -15,6 +15,14 @@ use Rattle.list.proofs.identities.guid_at.Kinds as guid-at
 use Rattle.list.proofs.identities.guid_at.Reads as guid-at-reads
 use Rattle.list.proofs.identities.same_guid.Kinds as same-guid
 use Rattle.list.proofs.identities.same_guid.Reads as same-guid-reads
+use Rattle.list.proofs.numbers.byte_in.Kinds as byte-in
+use Rattle.list.proofs.numbers.byte_in.Reads as byte-in-reads
+use Rattle.list.proofs.numbers.half_in.Kinds as half-in
+use Rattle.list.proofs.numbers.half_in.Reads as half-in-reads
+use Rattle.list.proofs.numbers.word_in.Kinds as word-in
+use Rattle.list.proofs.numbers.word_in.Reads as word-in-reads
+use Rattle.list.proofs.numbers.part_of.Kinds as part-of
+use Rattle.list.proofs.numbers.part_of.Reads as part-of-reads
 use Rattle.list.proofs.numbers.put.Kinds as put
 use Rattle.list.proofs.numbers.put.Reads as put-reads
 use Rattle.list.proofs.entries.is_object.Kinds as is-object
@@ -43,6 +51,19 @@ guid-at-determined κs a x y s t p q = p ∙ sym q
 
 pub same-guid-determined : OneResult 0 same-guid.ps same-guid.r same-guid-reads.Learnt
 same-guid-determined κs a x y s t p q = p ∙ sym q
+
+pub byte-in-determined : OneResult 1 byte-in.ps byte-in.r byte-in-reads.Learnt
+byte-in-determined κs a x y s t p q = p ∙ sym q
+
+pub half-in-determined : OneResult 1 half-in.ps half-in.r half-in-reads.Learnt
+half-in-determined κs a x y s t p q = p ∙ sym q
+
+pub word-in-determined : OneResult 1 word-in.ps word-in.r word-in-reads.Learnt
+word-in-determined κs a x y s t p q = p ∙ sym q
+
+-- the bytes of the part
+pub part-of-determined : Determines 1 part-of.ps part-of.r (λ κs x y s t. now x ≡ now y) part-of-reads.Learnt
+part-of-determined κs a x y s t p q = p ∙ sym q
 
 -- the buffer afterwards
 pub put-determined : Determines 2 put.ps put.r (λ κs x y s t. now (s .0) ≡ now (t .0)) put-reads.Learnt

@@ -10,6 +10,7 @@ use Rattle.list.specs.Bytes.{part, putAt}
 use Rattle.list.proofs.Places.{length-part, part-most, part-of-take, put-whole}
 use Rattle.tree.specs.Room.{limit, depth, kept, stepsAt, roomFor, own, area}
 use Rattle.tree.specs.Calls.{shifted, pushed, popped}
+use Rattle.tree.proofs.Tested.{part-within}
 use Rattle.tree.proofs.Lays.{write-one, write-next, write-more}
 
 pub step-laid : (a tag i : ℕ) (b l m : List ℕ) → a + 2 + length b ≤ length l → m ≡ putAt (a + 2) b (set (set l a tag) (a + 1) i) → m ≡ putAt a (tag ∷ i ∷ b) l
@@ -18,6 +19,10 @@ step-laid a tag i b l m h e = write-more (length b) b m (write-next i (write-one
 -- a part is no longer than asked for
 pub most : (a n : ℕ) (l b : List ℕ) → b ≡ part a n l → length b ≤ n
 most a n l b e = rw e (part-most a n l)
+
+-- nor longer than what it is a part of
+pub inside : (a n : ℕ) (l b : List ℕ) → b ≡ part a n l → length b ≤ length l
+inside a n l b e = rw e (part-within a n l)
 
 pub own-most : (i : ℕ) (r b : List ℕ) → b ≡ own i r → length b ≤ 1184
 unfolding own

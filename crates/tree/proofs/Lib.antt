@@ -21,3 +21,6 @@ pub mod Keeps
 pub mod Machine
 pub mod Plays
 pub mod Demand3
+pub mod Worked
+pub mod Answered
+pub mod Changing

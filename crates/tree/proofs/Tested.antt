@@ -122,7 +122,7 @@ standing-most c u = by (eqb (tagOf u) 1)
 
 -- ---- the list in a slot
 
-part-within : (a n : ℕ) (l : List ℕ) → length (part a n l) ≤ length l
+pub part-within : (a n : ℕ) (l : List ℕ) → length (part a n l) ≤ length l
 unfolding part
 part-within a n l = simp (length-take, length-drop) (omega arith)
 

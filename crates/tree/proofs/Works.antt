@@ -9,7 +9,7 @@ use native.Mathlib.Numerals.{add-one}
 use native.Mathlib.Omega.{arith}
 use lib.ListN.{length, drop}
 use lib.Seq.{take-at}
-use lib.Dec.{eqb, ltb}
+use lib.Dec.{eqb}
 use borrow.Author.Tests.{lt-ltb, le-ltb}
 use Rattle.list.specs.Bytes.{le, part, putAt}
 use Rattle.inherit.specs.declared.Settings.{Settings}
@@ -23,7 +23,7 @@ use Rattle.inherit.specs.Compute.{computeOf, bytesFor, outBy, answerFor, outFor
 use Rattle.inherit.proofs.Theorems.{present-fits}
 use Rattle.tree.specs.Held.{hasList, bytesIn, held, slotFor, kindOf, markOf, typeOf, ownerOf, groupOf, ownSlot, ownList, parentOf}
 use Rattle.tree.specs.Room.{slotAt, settings, ruleOf, defaultSlot, defaultOf, mappingOf, own, slot}
-use Rattle.tree.specs.Work.{given, settingsIn, givenIn, answerIn, resultIn, taken, computed, above, laid, rework, reworked}
+use Rattle.tree.specs.Work.{given, settingsIn, givenIn, answerIn, resultIn, computed, above, laid, rework, reworked}
 use Rattle.tree.specs.History.{bind, isSome, orElse}
 
 pub given-lent : (b : Bool) (s : List ℕ) → given (lent b s) ≡ b
@@ -100,32 +100,33 @@ unfolding above
 above-none i p r e h = rw (← e, le-ltb p i h) refl
 
 -- one object, by what the computation answers
-module _ (i : ℕ) (w out out₁ : List ℕ) (x : Optional) (q : x ≡ above i w) (room : length out ≡ 1024) where
-  pub rework-present : (l n k : ℕ) (w₁ : List ℕ) → answerIn (settings w) x (own i w) (length out) ≡ Present l n k
-      → out₁ ≡ outBy (Present l n k) (bytesFor (resultIn (settings w) x (own i w))) out
+module _ (i : ℕ) (w out e b : List ℕ) (x : Optional) (a : Computed) (q : x ≡ above i w) (ee : e ≡ settings w) (eb : b ≡ own i w)
+    (room : length out ≡ 1024) (h : a ≡ answerIn e x b (length out)) where
+  answered : (y : Computed) → a ≡ y → answerIn (settings w) x (own i w) 1024 ≡ y
+  answered y g = rw (← room, ← ee, ← eb) (sym h ∙ g)
+
+  left-out : (out₁ : List ℕ) (y : Computed) → a ≡ y → out₁ ≡ outBy a (bytesFor (resultIn e x b)) out → out₁ ≡ outBy y (bytesFor (resultIn (settings w) x (own i w))) out
+  left-out out₁ y g f = rw (← ee, ← eb, ← g) f
+
+  pub rework-present : (l n k : ℕ) (out₁ w₁ : List ℕ) → a ≡ Present l n k → out₁ ≡ outBy a (bytesFor (resultIn e x b)) out
       → w₁ ≡ putAt (slotAt i) (slotFor (present (part 0 l out₁))) w
       → (true ≡ isSome (rework i w)) × (w₁ ≡ orElse w (rework i w))
   unfolding rework computed laid isSome orElse outBy part
-  rework-present l n k w₁ h f g =
-      let a : answerIn (settings w) x (own i w) 1024 ≡ Present l n k = rw (← room) h in
-      let z = present-fits (settingsIn (settings w) x (own i w)) (givenIn (settings w) x (own i w)) (typeOf (own i w)) x (ownList (own i w)) (defaultOf (settings w)) 1024 l n k a in
+  rework-present l n k out₁ w₁ g f t =
+      let y : answerIn (settings w) x (own i w) 1024 ≡ Present l n k = answered (Present l n k) g in
+      let z = present-fits (settingsIn (settings w) x (own i w)) (givenIn (settings w) x (own i w)) (typeOf (own i w)) x (ownList (own i w)) (defaultOf (settings w)) 1024 l n k y in
       let bytes = bytesFor (resultIn (settings w) x (own i w)) in
-      let t : part 0 l out₁ ≡ bytes = rw f (take-at bytes (drop (length bytes) out) l (sym (z .0))) in
-      rw (← q, a) (refl, g ∙ ap (λ (y : List ℕ). putAt (slotAt i) (slotFor (present y)) w) t)
+      let o : out₁ ≡ outBy (Present l n k) bytes out = left-out out₁ (Present l n k) g f in
+      let u : part 0 l out₁ ≡ bytes = rw o (take-at bytes (drop (length bytes) out) l (sym (z .0))) in
+      rw (← q, y) (refl, t ∙ ap (λ (v : List ℕ). putAt (slotAt i) (slotFor (present v)) w) u)
 
-  pub rework-absent : (w₁ : List ℕ) → answerIn (settings w) x (own i w) (length out) ≡ Absent
-      → w₁ ≡ putAt (slotAt i) (slotFor absent) w → (true ≡ isSome (rework i w)) × (w₁ ≡ orElse w (rework i w))
+  pub rework-absent : (w₁ : List ℕ) → a ≡ Absent → w₁ ≡ putAt (slotAt i) (slotFor absent) w → (true ≡ isSome (rework i w)) × (w₁ ≡ orElse w (rework i w))
   unfolding rework computed laid isSome orElse
-  rework-absent w₁ h g =
-      let a : answerIn (settings w) x (own i w) 1024 ≡ Absent = rw (← room) h in
-      rw (← q, a) (refl, g)
+  rework-absent w₁ g t = rw (← q, answered Absent g) (refl, t)
 
-  pub rework-refused : (l n k : ℕ) → answerIn (settings w) x (own i w) (length out) ≡ Refused l n k
-      → (false ≡ isSome (rework i w)) × (w ≡ orElse w (rework i w))
+  pub rework-refused : (l n k : ℕ) → a ≡ Refused l n k → (false ≡ isSome (rework i w)) × (w ≡ orElse w (rework i w))
   unfolding rework computed laid isSome orElse
-  rework-refused l n k h =
-      let a : answerIn (settings w) x (own i w) 1024 ≡ Refused l n k = rw (← room) h in
-      rw (← q, a) (refl, refl)
+  rework-refused l n k g = rw (← q, answered (Refused l n k) g) (refl, refl)
 
 -- ---- all objects
 

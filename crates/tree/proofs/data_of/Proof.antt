@@ -1,40 +1,52 @@
+-- The room and the object are tested, then its own data is given. Assumes nothing.
 use borrow.Author.Needs.{needs}
+use native.Mathlib.Omega.{arith}
+use mathlib.Core.Path.{_≡_, refl, sym, ap, _∙_}
+use mathlib.Core.List.{List}
+use mathlib.Core.Bool.{true}
+use Prim.Native.Nat.{ℕ}
+use denote.Ref.{now}
+use lib.ListN.{length}
+use Rattle.tree.specs.declared.Answer.the-variants.{Done}
+use Rattle.tree.specs.Calls.{objectFault, copied, dataOf, dataTo}
+use Rattle.tree.proofs.Answered.{settle, on-object-good, on-object-bad, object-small, own-long}
 use Rattle.tree.proofs.data_of.Statement.{statement}
 use Rattle.tree.proofs.data_of.Tie as tie
-use Rattle.tree.proofs.data_of.Reads as reads
-use Rattle.tree.proofs.data_of.Lts as lts
-use Rattle.tree.proofs.give_data.Reads as give-data-reads
-use Rattle.tree.proofs.places.own.Reads as own-reads
-use Rattle.tree.proofs.refused.Reads as refused-reads
-use Rattle.tree.proofs.tests.object_fault.Reads as object-fault-reads
 
--- src/lib.rt:364:9
+good : (c : tie.Else1) → objectFault (now (c .before .before .before .before .args .room)) (c .before .before .before .before .args .object) ≡ 0
+good c = sym (c .before .object-fault .ensures) ∙ c .if1 .left
+
 object-fault-requires : tie.Need-object-fault-requires
 object-fault-requires c κs = search needs
 
--- src/lib.rt:366:9
 refused-requires : tie.Need-refused-requires
 refused-requires c κs = search needs
 
--- src/lib.rt:366:9
 returns : tie.Need-returns
-returns c = ?
+unfolding dataTo
+returns c =
+    let a = c .before .before .before .before .before .args in
+    let e = c .before .before .object-fault .ensures in
+    settle (on-object-bad (now (a .room)) (a .object) _ _ (λ h. c .before .if1 .taken (e ∙ h))) (c .refused .ensures ∙ rw e refl) refl
 
--- src/lib.rt:368:15
 own-requires : tie.Need-own-requires
-own-requires c κs = ?
+own-requires c κs = object-small _ _ (good c)
 
--- src/lib.rt:368:5
 give-data-requires : tie.Need-give-data-requires
-give-data-requires c κs = ?
+give-data-requires c κs = omega (arith, ap length (c .before .own .ensures), own-long _ _ (good (c .before .before)))
 
--- src/lib.rt:360:1
 same-length : tie.Need-same-length
 same-length c = search needs
 
--- src/lib.rt:360:1
 returns-2 : tie.Need-returns-2
-returns-2 c = ?
+unfolding dataTo
+returns-2 c =
+    let g = c .before .before in
+    let o = g .before .before in
+    let a = o .before .before .before .before .before .args in
+    settle
+    (on-object-good (now (a .room)) (a .object) _ _ (good (o .before)) ∙ ap (λ (x : List ℕ). copied (Done (length (dataOf x)) true 0) (dataOf x) (now (a .out))) (sym (o .own .ensures)))
+    (g .give-data .ensures .0) (g .give-data .ensures .1)
 
 pub data-of-spec : {M : Type 1} → statement M
 data-of-spec =

@@ -1,62 +1,55 @@
+-- Four numbers, the settings, and zeros. Assumes nothing.
 use borrow.Author.Needs.{needs}
+use native.Mathlib.Omega.{arith}
+use mathlib.Core.Path.{_∙_}
+use denote.Ref.{now}
+use lib.ListN.{length-set}
+use Rattle.tree.proofs.Answered.{empty-laid}
 use Rattle.tree.proofs.empty.Statement.{statement}
 use Rattle.tree.proofs.empty.Tie as tie
-use Rattle.tree.proofs.empty.Reads as reads
-use Rattle.tree.proofs.empty.Lts as lts
-use Rattle.tree.proofs.writes.lay_settings.Reads as lay-settings-reads
-use Rattle.tree.proofs.writes.zero.Reads as zero-reads
 
--- src/lib.rt:125:12
 cast-r : tie.Need-cast-r
 cast-r c = search needs
 
--- src/lib.rt:125:5
 slice-write-r : tie.Need-slice-write-r
 slice-write-r c = search needs
 
--- src/lib.rt:126:12
 cast-r-2 : tie.Need-cast-r-2
 cast-r-2 c = search needs
 
--- src/lib.rt:126:5
 slice-write-r-2 : tie.Need-slice-write-r-2
-slice-write-r-2 c = ?
+slice-write-r-2 c = simp length-set (omega arith)
 
--- src/lib.rt:127:5
 slice-write-r-3 : tie.Need-slice-write-r-3
-slice-write-r-3 c = ?
+slice-write-r-3 c = simp length-set (omega arith)
 
--- src/lib.rt:128:5
 slice-write-r-4 : tie.Need-slice-write-r-4
-slice-write-r-4 c = ?
+slice-write-r-4 c = simp length-set (omega arith)
 
--- src/lib.rt:129:5
 lay-settings-requires : tie.Need-lay-settings-requires
-lay-settings-requires c κs = ?
+lay-settings-requires c κs = (c .before .before .before .pre .1 .1 .0, simp length-set (omega arith))
 
--- src/lib.rt:130:19
 mul-zero : tie.Need-mul-zero
 mul-zero c = search needs
 
--- src/lib.rt:130:36
 mul-zero-2 : tie.Need-mul-zero-2
 mul-zero-2 c = search needs
 
--- src/lib.rt:130:19
 add-zero : tie.Need-add-zero
 add-zero c = search needs
 
--- src/lib.rt:130:5
 zero-requires : tie.Need-zero-requires
-zero-requires c κs = ?
+zero-requires c κs = omega (arith, simp length-set at (c .before .before .before .lay-settings .kept .0))
 
--- src/lib.rt:113:1
 same-length : tie.Need-same-length
-same-length c = ?
+same-length c = c .before .before .zero .kept .0 ∙ c .before .before .before .before .before .before .lay-settings .kept .0 ∙ simp length-set
 
--- src/lib.rt:113:1
 returns : tie.Need-returns
-returns c = ?
+returns c =
+    let l = c .before .before .before .before .before .before in
+    let s = l .before .before .before .before in
+    let a = s .args in
+    empty-laid (a .objects) (a .steps) (a .rule) (a .m) _ (now (a .r)) _ _ (s .pre .1 .1 .0) (s .pre .1 .1 .1) (l .lay-settings .ensures) (c .before .before .zero .ensures)
 
 pub empty-spec : {M : Type 1} → statement M
 empty-spec =

@@ -1,53 +1,63 @@
+-- An absent list leaves the bytes as they were; a list is copied where it fits. Assumes nothing.
 use borrow.Author.Needs.{needs}
+use native.Mathlib.Omega.{arith}
+use mathlib.Core.Path.{refl, ap, _∙_}
+use mathlib.Core.List.{List}
+use Prim.Native.Nat.{ℕ}
+use denote.Ref.{now}
+use lib.ListN.{length}
+use Rattle.list.specs.Bytes.{front}
+use Rattle.list.proofs.Writes.{put-all}
+use Rattle.tree.specs.Held.{bytesIn}
+use Rattle.tree.specs.Calls.{bytesIf}
+use Rattle.tree.proofs.Tested.{refused, passed}
+use Rattle.tree.proofs.Answered.{settle, absent-copied, copied-all, copied-none}
 use Rattle.tree.proofs.give_list.Statement.{statement}
 use Rattle.tree.proofs.give_list.Tie as tie
-use Rattle.tree.proofs.give_list.Reads as reads
-use Rattle.tree.proofs.give_list.Lts as lts
-use Rattle.list.proofs.put.Reads as put-reads
-use Rattle.tree.proofs.held.bytes_in.Reads as bytes-in-reads
-use Rattle.tree.proofs.held.has_list.Reads as has-list-reads
-use Rattle.tree.proofs.held.told.Reads as told-reads
-use Rattle.tree.proofs.refused.Reads as refused-reads
 
--- src/lib.rt:300:9
 has-list-requires : tie.Need-has-list-requires
 has-list-requires c κs = search needs
 
--- src/lib.rt:301:9
 told-requires : tie.Need-told-requires
 told-requires c κs = search needs
 
--- src/lib.rt:301:9
 returns : tie.Need-returns
-returns c = ?
+returns c =
+    let e = refused (c .before .before .has-list .ensures) (c .before .if1 .taken) in
+    rw e (settle (absent-copied _) (c .told .ensures ∙ rw e refl) refl)
 
--- src/lib.rt:303:9
 bytes-in-requires : tie.Need-bytes-in-requires
 bytes-in-requires c κs = search needs
 
--- src/lib.rt:305:9
 refused-requires : tie.Need-refused-requires
 refused-requires c κs = search needs
 
--- src/lib.rt:305:9
 returns-2 : tie.Need-returns-2
-returns-2 c = ?
+unfolding bytesIf
+returns-2 c =
+    let e = passed (c .before .before .before .before .has-list .ensures) (c .before .before .before .if1 .left) in
+    let s = now (c .before .before .before .before .before .before .before .args .s) in
+    rw e (settle (copied-none _ (bytesIn s) _ (omega (arith, ap length (c .before .before .bytes-in .ensures)))) (c .refused .ensures) refl)
 
--- src/lib.rt:307:5
 put-requires : tie.Need-put-requires
 put-requires c κs = search needs
 
--- src/lib.rt:308:5
 told-requires-2 : tie.Need-told-requires-2
 told-requires-2 c κs = search needs
 
--- src/lib.rt:297:1
 same-length : tie.Need-same-length
 same-length c = search needs
 
--- src/lib.rt:297:1
 returns-3 : tie.Need-returns-3
-returns-3 c = ?
+unfolding bytesIf
+returns-3 c =
+    let p = c .before .before .before in
+    let q = p .before .before .before in
+    let a = q .before .before .before .before .before .args in
+    let e = passed (q .before .before .has-list .ensures) (q .before .if1 .left) in
+    rw e
+    (settle (copied-all _ (bytesIn (now (a .s))) (now (a .out)) (omega (arith, ap length (q .bytes-in .ensures)))) (c .told2 .ensures ∙ rw e refl)
+    (p .put .ensures ∙ put-all _ (now (a .out)) (omega arith) ∙ ap (λ (x : List ℕ). front x (now (a .out))) (q .bytes-in .ensures)))
 
 pub give-list-spec : {M : Type 1} → statement M
 give-list-spec =

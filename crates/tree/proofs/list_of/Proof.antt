@@ -1,40 +1,49 @@
+-- The room and the object are tested, then the slot's list is given. Assumes nothing.
 use borrow.Author.Needs.{needs}
+use mathlib.Core.Path.{_≡_, refl, sym, ap, _∙_}
+use mathlib.Core.List.{List}
+use Prim.Native.Nat.{ℕ}
+use denote.Ref.{now}
+use Rattle.tree.specs.Held.{held}
+use Rattle.tree.specs.Calls.{objectFault, told, bytesIf, copied, listTo}
+use Rattle.tree.proofs.Answered.{settle, on-object-good, on-object-bad, object-small}
 use Rattle.tree.proofs.list_of.Statement.{statement}
 use Rattle.tree.proofs.list_of.Tie as tie
-use Rattle.tree.proofs.list_of.Reads as reads
-use Rattle.tree.proofs.list_of.Lts as lts
-use Rattle.tree.proofs.give_list.Reads as give-list-reads
-use Rattle.tree.proofs.places.slot.Reads as slot-reads
-use Rattle.tree.proofs.refused.Reads as refused-reads
-use Rattle.tree.proofs.tests.object_fault.Reads as object-fault-reads
 
--- src/lib.rt:316:9
+good : (c : tie.Else1) → objectFault (now (c .before .before .before .before .args .room)) (c .before .before .before .before .args .object) ≡ 0
+good c = sym (c .before .object-fault .ensures) ∙ c .if1 .left
+
 object-fault-requires : tie.Need-object-fault-requires
 object-fault-requires c κs = search needs
 
--- src/lib.rt:318:9
 refused-requires : tie.Need-refused-requires
 refused-requires c κs = search needs
 
--- src/lib.rt:318:9
 returns : tie.Need-returns
-returns c = ?
+unfolding listTo
+returns c =
+    let a = c .before .before .before .before .before .args in
+    let e = c .before .before .object-fault .ensures in
+    settle (on-object-bad (now (a .room)) (a .object) _ _ (λ h. c .before .if1 .taken (e ∙ h))) (c .refused .ensures ∙ rw e refl) refl
 
--- src/lib.rt:320:15
 slot-requires : tie.Need-slot-requires
-slot-requires c κs = ?
+slot-requires c κs = object-small _ _ (good c)
 
--- src/lib.rt:320:5
 give-list-requires : tie.Need-give-list-requires
 give-list-requires c κs = search needs
 
--- src/lib.rt:312:1
 same-length : tie.Need-same-length
 same-length c = search needs
 
--- src/lib.rt:312:1
 returns-2 : tie.Need-returns-2
-returns-2 c = ?
+unfolding listTo
+returns-2 c =
+    let g = c .before .before in
+    let s = g .before .before in
+    let a = s .before .before .before .before .before .args in
+    settle
+    (on-object-good (now (a .room)) (a .object) _ _ (good (s .before)) ∙ ap (λ (x : List ℕ). copied (told (held x)) (bytesIf (held x)) (now (a .out))) (sym (s .slot .ensures)))
+    (g .give-list .ensures .0) (g .give-list .ensures .1)
 
 pub list-of-spec : {M : Type 1} → statement M
 list-of-spec =

@@ -1,45 +1,54 @@
+-- The room and the object are tested, then the list in its own data is given. Assumes nothing.
 use borrow.Author.Needs.{needs}
+use mathlib.Core.Path.{_≡_, refl, sym, ap, _∙_}
+use mathlib.Core.List.{List}
+use Prim.Native.Nat.{ℕ}
+use denote.Ref.{now}
+use Rattle.list.specs.Bytes.{part}
+use Rattle.tree.specs.Held.{held}
+use Rattle.tree.specs.Calls.{objectFault, told, bytesIf, copied, ownTo}
+use Rattle.tree.proofs.Answered.{settle, on-object-good, on-object-bad, object-small}
 use Rattle.tree.proofs.own_of.Statement.{statement}
 use Rattle.tree.proofs.own_of.Tie as tie
-use Rattle.tree.proofs.own_of.Reads as reads
-use Rattle.tree.proofs.own_of.Lts as lts
-use Rattle.list.proofs.part_of.Reads as part-of-reads
-use Rattle.tree.proofs.give_list.Reads as give-list-reads
-use Rattle.tree.proofs.places.own.Reads as own-reads
-use Rattle.tree.proofs.refused.Reads as refused-reads
-use Rattle.tree.proofs.tests.object_fault.Reads as object-fault-reads
 
--- src/lib.rt:328:9
+good : (c : tie.Else1) → objectFault (now (c .before .before .before .before .args .room)) (c .before .before .before .before .args .object) ≡ 0
+good c = sym (c .before .object-fault .ensures) ∙ c .if1 .left
+
 object-fault-requires : tie.Need-object-fault-requires
 object-fault-requires c κs = search needs
 
--- src/lib.rt:330:9
 refused-requires : tie.Need-refused-requires
 refused-requires c κs = search needs
 
--- src/lib.rt:330:9
 returns : tie.Need-returns
-returns c = ?
+unfolding ownTo
+returns c =
+    let a = c .before .before .before .before .before .args in
+    let e = c .before .before .object-fault .ensures in
+    settle (on-object-bad (now (a .room)) (a .object) _ _ (λ h. c .before .if1 .taken (e ∙ h))) (c .refused .ensures ∙ rw e refl) refl
 
--- src/lib.rt:332:23
 own-requires : tie.Need-own-requires
-own-requires c κs = ?
+own-requires c κs = object-small _ _ (good c)
 
--- src/lib.rt:332:15
 part-of-requires : tie.Need-part-of-requires
 part-of-requires c κs = search needs
 
--- src/lib.rt:332:5
 give-list-requires : tie.Need-give-list-requires
 give-list-requires c κs = search needs
 
--- src/lib.rt:324:1
 same-length : tie.Need-same-length
 same-length c = search needs
 
--- src/lib.rt:324:1
 returns-2 : tie.Need-returns-2
-returns-2 c = ?
+unfolding ownTo
+returns-2 c =
+    let g = c .before .before in
+    let p = g .before .before in
+    let o = p .before in
+    let a = o .before .before .before .before .before .args in
+    let e = p .part-of .ensures ∙ ap (part 157 1027) (o .own .ensures) in
+    settle (on-object-good (now (a .room)) (a .object) _ _ (good (o .before)) ∙ ap (λ (x : List ℕ). copied (told (held x)) (bytesIf (held x)) (now (a .out))) (sym e))
+    (g .give-list .ensures .0) (g .give-list .ensures .1)
 
 pub own-of-spec : {M : Type 1} → statement M
 own-of-spec =

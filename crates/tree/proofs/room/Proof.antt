@@ -1,40 +1,46 @@
+-- By cases of `limitsOk`. Assumes nothing.
 use borrow.Author.Needs.{needs}
+use native.Mathlib.Omega.{arith}
+use borrow.Author.Tests.{le-leb, lt-leb}
+use Rattle.tree.specs.Room.{limitsOk, roomOf}
 use Rattle.tree.proofs.room.Statement.{statement}
 use Rattle.tree.proofs.room.Tie as tie
-use Rattle.tree.proofs.room.Reads as reads
-use Rattle.tree.proofs.room.Lts as lts
 
--- src/lib.rt:88:9
 returns : tie.Need-returns
-returns c = ?
+unfolding roomOf limitsOk
+returns c =
+    let a = c .before .args in
+    simp (lt-leb 1 (a .objects) (omega arith))
 
--- src/lib.rt:91:9
 returns-2 : tie.Need-returns-2
-returns-2 c = ?
+unfolding roomOf limitsOk
+returns-2 c =
+    let a = c .before .before .args in
+    simp (le-leb 1 (a .objects) (omega arith), lt-leb (a .objects) 64 (omega arith))
 
--- src/lib.rt:94:9
 returns-3 : tie.Need-returns-3
-returns-3 c = ?
+unfolding roomOf limitsOk
+returns-3 c =
+    let a = c .before .before .before .args in
+    simp (le-leb 1 (a .objects) (omega arith), le-leb (a .objects) 64 (omega arith), lt-leb (a .steps) 64 (omega arith))
 
--- src/lib.rt:96:12
 mul-result : tie.Need-mul-result
 mul-result c = search needs
 
--- src/lib.rt:96:5
 add-result : tie.Need-add-result
 add-result c = search needs
 
--- src/lib.rt:96:38
 mul-result-2 : tie.Need-mul-result-2
 mul-result-2 c = search needs
 
--- src/lib.rt:96:5
 add-result-2 : tie.Need-add-result-2
 add-result-2 c = search needs
 
--- src/lib.rt:84:1
 returns-4 : tie.Need-returns-4
-returns-4 c = ?
+unfolding roomOf limitsOk
+returns-4 c =
+    let a = c .before .before .before .args in
+    simp (le-leb 1 (a .objects) (omega arith), le-leb (a .objects) 64 (omega arith), le-leb (a .steps) 64 (omega arith))
 
 pub room-spec : {M : Type 1} → statement M
 room-spec =

@@ -1,66 +1,80 @@
+-- Each return is a case of `startTo`, by the tests that led there. Assumes nothing.
 use borrow.Author.Needs.{needs}
+use native.Mathlib.Omega.{arith}
+use mathlib.Core.Path.{_≡_, refl, sym, ap, _∙_}
+use mathlib.Core.Bool.{true}
+use denote.Ref.{now}
+use lib.ListN.{length}
+use Rattle.inherit.specs.Given.{lent}
+use Rattle.tree.specs.declared.Answer.{Answer}
+use Rattle.tree.specs.declared.Answer.the-variants.{Refused}
+use Rattle.tree.specs.declared.tests.Fault.{Fault}
+use Rattle.tree.specs.Calls.{faultOf, short, startOk, startTo}
+use Rattle.tree.proofs.Tested.{refused, passed}
+use Rattle.tree.proofs.Answered.{settle, need-yes, need-no, readable-good, readable-bad, start-facts}
 use Rattle.tree.proofs.start.Statement.{statement}
 use Rattle.tree.proofs.start.Tie as tie
-use Rattle.tree.proofs.start.Reads as reads
-use Rattle.tree.proofs.start.Lts as lts
-use Rattle.tree.proofs.empty.Reads as empty-reads
-use Rattle.tree.proofs.refused.Reads as refused-reads
-use Rattle.tree.proofs.start_ok.Reads as start-ok-reads
-use Rattle.tree.proofs.tests.fault_of.Reads as fault-of-reads
-use Rattle.tree.proofs.tests.short.Reads as short-reads
-use Rattle.tree.proofs.zeros.Reads as zeros-reads
 
--- src/lib.rt:145:9
+ok-yes : (c : tie.Else1) → startOk (c .before .before .before .before .args .objects) (c .before .before .before .before .args .steps) (c .before .before .before .before .args .rule) (length (now (c .before .before .before .before .args .room))) ≡ true
+ok-yes c = passed (c .before .start-ok .ensures) (c .if1 .left)
+
+list-yes : (c : tie.Else2) → faultOf (lent (c .before .before .before .before .before .before .before .args .has) (now (c .before .before .before .before .before .before .before .args .default))) .number ≡ 0
+list-yes c = sym (ap (λ (x : Fault). x .number) (c .before .before .fault-of .ensures)) ∙ c .if2 .left
+
+short-yes : (c : tie.Else3) → short (lent (c .before .before .before .before .before .before .before .before .before .args .has) (now (c .before .before .before .before .before .before .before .before .before .args .default))) ≡ true
+short-yes c = passed (c .before .short .ensures) (c .if3 .left)
+
 start-ok-requires : tie.Need-start-ok-requires
 start-ok-requires c κs = search needs
 
--- src/lib.rt:146:9
 refused-requires : tie.Need-refused-requires
 refused-requires c κs = search needs
 
--- src/lib.rt:146:9
 returns : tie.Need-returns
-returns c = ?
+unfolding startTo
+returns c = settle (need-no 12 _ _ (refused (c .before .before .start-ok .ensures) (c .before .if1 .taken))) (c .refused .ensures) refl
 
--- src/lib.rt:148:9
 fault-of-requires : tie.Need-fault-of-requires
 fault-of-requires c κs = search needs
 
--- src/lib.rt:150:9
 returns-2 : tie.Need-returns-2
-returns-2 c = ?
+unfolding startTo
+returns-2 c =
+    let f = c .before .before .fault-of .ensures in
+    settle (need-yes 12 _ _ (ok-yes (c .before .before .before)) ∙ readable-bad _ 3 _ _ (λ h. c .if2 .taken (ap (λ (x : Fault). x .number) f ∙ h)))
+    (ap {B = Answer} (λ (x : Fault). Refused (x .number) 3 (x .offset)) f) refl
 
--- src/lib.rt:156:9
 short-requires : tie.Need-short-requires
 short-requires c κs = search needs
 
--- src/lib.rt:157:9
 refused-requires-2 : tie.Need-refused-requires-2
 refused-requires-2 c κs = search needs
 
--- src/lib.rt:157:9
 returns-3 : tie.Need-returns-3
-returns-3 c = ?
+unfolding startTo
+returns-3 c =
+    settle (need-yes 12 _ _ (ok-yes (c .before .before .before .before .before .before)) ∙ readable-good _ 3 _ _ (list-yes (c .before .before .before)) ∙ need-no 8 _ _ (refused (c .before .before .short .ensures) (c .before .if3 .taken)))
+    (c .refused2 .ensures) refl
 
--- src/lib.rt:163:9
 cast-empty : tie.Need-cast-empty
-cast-empty c = ?
+cast-empty c = omega (arith, start-facts _ _ _ _ (ok-yes (c .before .before .before .before .before .before)))
 
--- src/lib.rt:159:5
 empty-requires : tie.Need-empty-requires
-empty-requires c κs = ?
+empty-requires c κs =
+    let f = start-facts _ _ _ _ (ok-yes (c .before .before .before .before .before .before)) in
+    (f .objects-64, (f .steps-64, (short-yes (c .before), f .enough)))
 
--- src/lib.rt:168:5
 zeros-requires : tie.Need-zeros-requires
 zeros-requires c κs = search needs
 
--- src/lib.rt:134:1
 same-length : tie.Need-same-length
 same-length c = search needs
 
--- src/lib.rt:134:1
 returns-4 : tie.Need-returns-4
-returns-4 c = ?
+unfolding startTo
+returns-4 c =
+    settle (need-yes 12 _ _ (ok-yes (c .before .before .before .before .before .before .before .before .before .before)) ∙ readable-good _ 3 _ _ (list-yes (c .before .before .before .before .before .before .before)) ∙ need-yes 8 _ _ (short-yes (c .before .before .before .before .before)))
+    (c .zeros .ensures) (c .before .before .before .empty .ensures)
 
 pub start-spec : {M : Type 1} → statement M
 start-spec =

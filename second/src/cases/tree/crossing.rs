@@ -8,7 +8,7 @@ use super::make::{
 use super::sequence::Sequence;
 use crate::cases::build::{EntryPlan, creator_sid, good_list, nt_sid};
 use crate::list::HEADER_LENGTH;
-use crate::tree::{Add, Call, LONGEST_LIST, Part};
+use crate::tree::{Add, Call, Calls, LONGEST_LIST, Part};
 
 const DEPTHS: std::ops::RangeInclusive<u32> = 1..=3;
 
@@ -37,6 +37,15 @@ fn chain(sequence: &mut Sequence, first: Add, depth: u32, missing: usize) {
     sequence.lists();
 }
 
+/// As far as there are steps, and so many calls are left.
+fn undone(mut sequence: Sequence, left: usize) -> Vec<Call> {
+    while sequence.left() > left && sequence.tree().kept_steps() > 0 {
+        sequence.undo();
+    }
+    sequence.counts();
+    sequence.calls()
+}
+
 /// A longer owner, or group, in the place of the root's placeholder; the last
 /// has two entries of it.
 fn by_identity(depth: u32, which: u32) -> Vec<Call> {
@@ -58,11 +67,7 @@ fn by_identity(depth: u32, which: u32) -> Vec<Call> {
         sequence.read(Part::List, depth);
         sequence.counts();
     }
-    while sequence.left() > 8 {
-        sequence.undo();
-    }
-    sequence.counts();
-    sequence.calls()
+    undone(sequence, 8)
 }
 
 fn by_list(depth: u32) -> Vec<Call> {
@@ -79,11 +84,7 @@ fn by_list(depth: u32) -> Vec<Call> {
         sequence.change(set_list(0, good_list(&entries_of(0x06, size))));
         sequence.read(Part::List, depth);
     }
-    while sequence.left() > 8 {
-        sequence.undo();
-    }
-    sequence.counts();
-    sequence.calls()
+    undone(sequence, 8)
 }
 
 /// The object under the root is protected; when it isn't, the root's entries
@@ -111,9 +112,5 @@ fn by_mark(depth: u32) -> Vec<Call> {
         sequence.change(set_mark(1, true));
     }
     sequence.change(set_owner(1, system(), system()));
-    while sequence.left() > 6 {
-        sequence.undo();
-    }
-    sequence.counts();
-    sequence.calls()
+    undone(sequence, 6)
 }

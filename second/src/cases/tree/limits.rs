@@ -1,6 +1,8 @@
 //! Object limits, reached by adds and left again by undo.
 
-use super::make::{CONTAINER, LEAF, below, of_creator, one_entry, root, set_mark, start, too_long};
+use super::make::{
+    CONTAINER, LEAF, below, of_creator, one_entry, root, set_list, set_mark, start, too_long,
+};
 use super::sequence::Sequence;
 use crate::tree::{Add, Call, Calls, Part};
 
@@ -21,21 +23,14 @@ fn another(number: u32, chained: bool) -> Add {
     match (number, chained) {
         (0, _) => root(CONTAINER).with_list(of_creator(0x03)),
         (_, true) => below(number - 1, CONTAINER),
-        (_, false) => below(
-            0,
-            if number.is_multiple_of(2) {
-                CONTAINER
-            } else {
-                LEAF
-            },
-        ),
+        (_, false) => below(0, [CONTAINER, LEAF][number as usize % 2]),
     }
 }
 
 fn filled(objects: u32, steps: u32) -> Vec<Call> {
     let mut sequence = Sequence::started(start(objects, steps));
     for number in 0..objects {
-        sequence.add(another(number, steps == 1));
+        sequence.stands(another(number, steps == 1));
     }
     sequence.counts();
     // 9 comes before 10, and 10 before the list.
@@ -59,18 +54,26 @@ fn filled(objects: u32, steps: u32) -> Vec<Call> {
     sequence.calls()
 }
 
+/// Containers in chains of nine, each chain below the root.
+fn in_chains(number: u32) -> Add {
+    match number % 9 {
+        1 => below(0, CONTAINER),
+        _ => another(number, true),
+    }
+}
+
 fn sixteen() -> Vec<Call> {
     let mut sequence = Sequence::started(start(16, 2));
     for number in 0..16 {
-        sequence.add(another(number, number % 3 != 0));
+        sequence.stands(in_chains(number));
     }
     sequence.add(below(0, LEAF));
     sequence.lists();
     sequence.undo();
     sequence.undo();
     sequence.play(Call::Undo);
-    sequence.add(below(13, CONTAINER));
-    sequence.add(below(14, LEAF));
+    sequence.stands(below(13, CONTAINER));
+    sequence.stands(below(14, LEAF));
     sequence.add(below(14, LEAF));
     sequence.read(Part::List, 15);
     sequence.read(Part::Data, 15);
@@ -82,12 +85,12 @@ fn sixteen() -> Vec<Call> {
 fn sixty_four() -> Vec<Vec<Call>> {
     let mut sequence = Sequence::started(start(64, 64));
     for number in 0..64 {
-        sequence.add(another(number, number % 9 != 0));
+        sequence.stands(in_chains(number));
     }
     sequence.add(below(63, LEAF));
     sequence.counts();
     sequence.lists();
-    sequence.change(super::make::set_list(0, one_entry(0x02, 77)));
+    sequence.change(set_list(0, one_entry(0x02, 77)));
     sequence.lists();
     sequence.play(Call::Undo);
     for object in [0, 1, 31, 62, 63] {

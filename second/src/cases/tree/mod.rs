@@ -2,10 +2,11 @@
 
 mod chains;
 mod crossing;
-pub mod fresh;
+mod fresh;
 mod limits;
 pub mod make;
 mod orders;
+pub mod palette;
 mod read_backs;
 mod refusals;
 mod sequence;
@@ -52,7 +53,7 @@ mod tests {
     use crate::records::encode_all;
     use crate::refusal::Fault;
     use crate::tally::Tally;
-    use crate::tree::{Calls, Player};
+    use crate::tree::{Calls, Part, Player};
 
     #[test]
     fn every_call_meets_every_number() {
@@ -134,9 +135,8 @@ mod tests {
                 undone += 1;
                 let behind = calls[at + 1..].iter().take(objects).enumerate();
                 let reads_all = behind.into_iter().all(|(number, call)| {
-                    let list = crate::tree::Part::List;
-                    matches!(call, Call::Read { part, object, .. }
-                        if *part == list && *object == number as u32)
+                    let wanted = (Part::List, number as u32);
+                    matches!(call, Call::Read { part, object, .. } if (*part, *object) == wanted)
                 });
                 read_whole += usize::from(reads_all);
             }

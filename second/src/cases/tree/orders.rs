@@ -12,7 +12,7 @@ const STAGES: u32 = 5;
 pub fn sequences(random: &mut Random) -> Vec<Vec<Call>> {
     let mut sequences = Vec::new();
     for full in [false, true] {
-        for turn in 0..2 {
+        for turn in 0..4 {
             sequences.push(adds(random, full, turn));
         }
     }

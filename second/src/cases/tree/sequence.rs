@@ -67,6 +67,12 @@ impl Sequence {
         self.change(Change::Add(add))
     }
 
+    /// An add that is known to be done.
+    pub fn stands(&mut self, add: Add) {
+        let outcome = self.add(add);
+        assert!(!outcome.is_refused(), "{outcome:?}");
+    }
+
     /// Reads the lists of all objects as well, if the tree is small.
     pub fn undo(&mut self) {
         self.play(Call::Undo);

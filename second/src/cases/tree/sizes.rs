@@ -2,8 +2,8 @@
 //! of change.
 
 use super::make::{
-    CONTAINER, LEAF, PROTECTED, below, entries_of, list_of_length, one_entry, root, set_list,
-    set_mark, set_owner, start, system,
+    CONTAINER, LEAF, PROTECTED, below, entries_of, list_of_length, one_entry, remove_list, root,
+    set_list, set_mark, set_owner, start, system,
 };
 use super::sequence::Sequence;
 use crate::cases::build::{EntryPlan, creator_sid, good_list, nt_sid};
@@ -37,8 +37,10 @@ fn given(rule: u32) -> Vec<Call> {
     for length in ABOUT {
         sequence.add(root(CONTAINER).with_list(list_of_length(0, length)));
         sequence.lists();
+        sequence.undo();
     }
-    sequence.add(below(0, LEAF));
+    sequence.stands(root(CONTAINER));
+    sequence.stands(below(0, LEAF));
     for length in ABOUT {
         sequence.change(set_list(1, list_of_length(0x03, length)));
         sequence.lists();
@@ -112,7 +114,8 @@ fn by_owner(rule: u32) -> Vec<Call> {
         sequence.lists();
         sequence.counts();
     }
-    for _ in 0..4 {
+    // All but the add: 1, 4 and 5 numbers were short enough.
+    for _ in 0..3 {
         sequence.undo();
     }
     for numbers in [5, 6] {
@@ -159,7 +162,7 @@ fn by_default(rule: u32) -> Vec<Call> {
     sequence.change(set_list(0, one_entry(0, 3)));
     sequence.add(below(0, CONTAINER));
     sequence.lists();
-    sequence.change(super::make::remove_list(0));
+    sequence.change(remove_list(0));
     sequence.everything();
     for _ in 0..5 {
         sequence.undo();

@@ -1,13 +1,15 @@
 //! Starts that are done and refused, and what stands after them.
 
-use super::make::{CONTAINER, LEAF, below, list_of_length, of_creator, one_entry, root, set_mark};
-use super::make::{start, too_long};
+use super::make::{
+    CONTAINER, LEAF, below, list_of_length, of_creator, one_entry, root, set_list, set_mark,
+    set_owner, start, too_long,
+};
 use super::sequence::Sequence;
-use crate::cases::build::good_list;
+use crate::cases::build::{good_list, nt_sid};
 use crate::cases::inherit::refusals::{BAD_RULES, bad_lists};
 use crate::cases::inherit::ways::some_default;
 use crate::random::Random;
-use crate::tree::{Call, Calls, LONGEST_LIST, Start, room};
+use crate::tree::{Call, Calls, LONGEST_LIST, Part, Start, room};
 
 pub fn sequences(random: &mut Random) -> Vec<Vec<Call>> {
     let mut sequences = vec![before_any_start()];
@@ -21,7 +23,6 @@ pub fn sequences(random: &mut Random) -> Vec<Vec<Call>> {
 
 /// The room is zeros, or nothing is lent: 13.
 fn before_any_start() -> Vec<Call> {
-    use crate::tree::{Change, Part};
     let mut sequence = Sequence::default();
     sequence.counts();
     sequence.play(Call::Undo);
@@ -33,16 +34,8 @@ fn before_any_start() -> Vec<Call> {
     sequence.add(root(CONTAINER));
     sequence.add(below(0, LEAF));
     sequence.change(set_mark(0, true));
-    sequence.change(Change::SetList {
-        object: 0,
-        has_list: 1,
-        list: vec![0; 3],
-    });
-    sequence.change(Change::SetOwner {
-        object: 9,
-        owner: Vec::new(),
-        group: Vec::new(),
-    });
+    sequence.change(set_list(0, vec![0; 3]));
+    sequence.change(set_owner(9, Vec::new(), Vec::new()));
     sequence.counts();
     sequence.calls()
 }
@@ -161,17 +154,17 @@ fn defaults() -> Vec<Vec<Call>> {
 }
 
 fn under_a_default(start: Start) -> Vec<Call> {
-    let other = || crate::cases::build::nt_sid(&[21, 5]);
+    let other = || nt_sid(&[21, 5]);
     let mut sequence = Sequence::started(start);
     sequence.add(root(CONTAINER));
     sequence.add(below(0, CONTAINER).with_owner(other()));
     sequence.add(below(1, LEAF).with_group(other()));
     sequence.everything();
-    sequence.change(super::make::set_list(0, one_entry(0x00, 3)));
+    sequence.change(set_list(0, one_entry(0x00, 3)));
     sequence.lists();
-    sequence.change(super::make::set_list(0, good_list(&[])));
+    sequence.change(set_list(0, good_list(&[])));
     sequence.lists();
-    sequence.change(super::make::set_owner(0, other(), other()));
+    sequence.change(set_owner(0, other(), other()));
     sequence.lists();
     while sequence.tree().kept_steps() > 0 && sequence.left() > 5 {
         sequence.undo();
@@ -226,7 +219,7 @@ fn again() -> Vec<Call> {
     sequence.start(start(2, 4));
     sequence.counts();
     sequence.play(Call::Undo);
-    sequence.read_into(crate::tree::Part::List, 0, 40);
+    sequence.read_into(Part::List, 0, 40);
     sequence.add(below(0, CONTAINER));
     sequence.add(root(LEAF));
     sequence.everything();

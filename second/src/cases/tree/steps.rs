@@ -1,8 +1,8 @@
 //! Kept steps: every limit reached and passed, undone until none is left.
 
 use super::make::{
-    CONTAINER, LEAF, below, of_creator, one_entry, remove_list, root, set_list, set_mark,
-    set_owner, start, system,
+    CONTAINER, LEAF, below, list_of_length, of_creator, one_entry, remove_list, root, set_list,
+    set_mark, set_owner, start, system,
 };
 use super::sequence::Sequence;
 use crate::cases::build::{good_list, nt_sid};
@@ -130,7 +130,7 @@ fn a_refused_change_is_no_step() -> Vec<Call> {
         set_list(0, Vec::new()),
         set_mark(2, true),
         set_owner(0, Vec::new(), system()),
-        set_list(0, super::make::list_of_length(0x03, 1_000)),
+        set_list(0, list_of_length(0x03, 1_000)),
         Change::Add(below(0, LEAF)),
     ] {
         sequence.change(refused);

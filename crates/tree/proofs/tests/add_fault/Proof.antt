@@ -1,43 +1,55 @@
+-- Each return is a case of `addFault`. Assumes nothing.
 use borrow.Author.Needs.{needs}
+use native.Mathlib.Omega.{arith}
+use mathlib.Core.Path.{_≡_, ap, _∙_}
+use mathlib.Core.Bool.{true}
+use Prim.Native.Nat.{ℕ}
+use denote.Ref.{now}
+use borrow.Author.Tests.{lt-ltb, le-ltb}
+use Rattle.tree.specs.Room.{limit, objects, own}
+use Rattle.tree.specs.Formed.{placed, formed}
+use Rattle.tree.specs.Calls.{nobody, addFault}
+use Rattle.tree.proofs.Tested.{refused, passed}
 use Rattle.tree.proofs.tests.add_fault.Statement.{statement}
 use Rattle.tree.proofs.tests.add_fault.Tie as tie
-use Rattle.tree.proofs.tests.add_fault.Reads as reads
-use Rattle.tree.proofs.tests.add_fault.Lts as lts
-use Rattle.tree.proofs.formed.formed.Reads as formed-reads
-use Rattle.tree.proofs.formed.placed.Reads as placed-reads
-use Rattle.tree.proofs.held.number_in.Reads as number-in-reads
 
--- src/tests.rt:72:9
+formed-yes : (c : tie.Else1) → formed (now (c .before .before .before .args .r)) ≡ true
+formed-yes c = passed (c .before .formed .ensures) (c .if1 .left)
+
+placed-here : (c : tie.After-placed) → c .placed .result ≡ placed nobody (λ j. own j (now (c .before .before .before .before .before .args .r))) (objects (now (c .before .before .before .before .before .args .r))) (c .before .before .before .before .before .args .parent)
+placed-here c = c .placed .ensures ∙ ap (λ (n : ℕ). placed nobody (λ j. own j (now (c .before .before .before .before .before .args .r))) n (c .before .before .before .before .before .args .parent)) (c .before .number-in .ensures .0)
+
 formed-requires : tie.Need-formed-requires
 formed-requires c κs = search needs
 
--- src/tests.rt:73:9
 returns : tie.Need-returns
-returns c = ?
+unfolding addFault
+returns c = simp (refused (c .before .formed .ensures) (c .if1 .taken))
 
--- src/tests.rt:75:9
 number-in-requires : tie.Need-number-in-requires
 number-in-requires c κs = search needs
 
--- src/tests.rt:76:9
 placed-requires : tie.Need-placed-requires
 placed-requires c κs = search needs
 
--- src/tests.rt:77:9
 returns-2 : tie.Need-returns-2
-returns-2 c = ?
+unfolding addFault
+returns-2 c = simp (formed-yes (c .before .before .before), refused (placed-here (c .before)) (c .if2 .taken))
 
--- src/tests.rt:79:12
 number-in-requires-2 : tie.Need-number-in-requires-2
 number-in-requires-2 c κs = search needs
 
--- src/tests.rt:80:9
 returns-3 : tie.Need-returns-3
-returns-3 c = ?
+unfolding addFault
+returns-3 c =
+    let r = now (c .before .before .before .before .before .before .before .before .args .r) in
+    simp (formed-yes (c .before .before .before .before .before), passed (placed-here (c .before .before .before)) (c .before .before .if2 .left), lt-ltb (objects r) (limit r) (omega arith))
 
--- src/tests.rt:69:1
 returns-4 : tie.Need-returns-4
-returns-4 c = ?
+unfolding addFault
+returns-4 c =
+    let r = now (c .before .before .before .before .before .before .before .before .args .r) in
+    simp (formed-yes (c .before .before .before .before .before), passed (placed-here (c .before .before .before)) (c .before .before .if2 .left), le-ltb (objects r) (limit r) (omega arith))
 
 pub add-fault-spec : {M : Type 1} → statement M
 add-fault-spec =

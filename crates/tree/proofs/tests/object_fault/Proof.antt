@@ -1,30 +1,35 @@
+-- Each return is a case of `objectFault`. Assumes nothing.
 use borrow.Author.Needs.{needs}
+use native.Mathlib.Omega.{arith}
+use denote.Ref.{now}
+use borrow.Author.Tests.{lt-ltb, le-ltb}
+use Rattle.tree.specs.Room.{objects}
+use Rattle.tree.specs.Calls.{objectFault}
+use Rattle.tree.proofs.Tested.{refused, passed}
 use Rattle.tree.proofs.tests.object_fault.Statement.{statement}
 use Rattle.tree.proofs.tests.object_fault.Tie as tie
-use Rattle.tree.proofs.tests.object_fault.Reads as reads
-use Rattle.tree.proofs.tests.object_fault.Lts as lts
-use Rattle.tree.proofs.formed.formed.Reads as formed-reads
-use Rattle.tree.proofs.held.number_in.Reads as number-in-reads
 
--- src/tests.rt:59:9
 formed-requires : tie.Need-formed-requires
 formed-requires c κs = search needs
 
--- src/tests.rt:60:9
 returns : tie.Need-returns
-returns c = ?
+unfolding objectFault
+returns c = simp (refused (c .before .formed .ensures) (c .if1 .taken))
 
--- src/tests.rt:62:12
 number-in-requires : tie.Need-number-in-requires
 number-in-requires c κs = search needs
 
--- src/tests.rt:63:9
 returns-2 : tie.Need-returns-2
-returns-2 c = ?
+unfolding objectFault
+returns-2 c =
+    let a = c .before .before .before .before .before .args in
+    simp (passed (c .before .before .before .formed .ensures) (c .before .before .if1 .left), lt-ltb (a .i) (objects (now (a .r))) (omega arith))
 
--- src/tests.rt:56:1
 returns-3 : tie.Need-returns-3
-returns-3 c = ?
+unfolding objectFault
+returns-3 c =
+    let a = c .before .before .before .before .before .args in
+    simp (passed (c .before .before .before .formed .ensures) (c .before .before .if1 .left), le-ltb (a .i) (objects (now (a .r))) (omega arith))
 
 pub object-fault-spec : {M : Type 1} → statement M
 object-fault-spec =

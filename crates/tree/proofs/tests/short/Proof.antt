@@ -1,15 +1,15 @@
+-- By whether a list is given. Assumes nothing.
+use Rattle.tree.specs.Calls.{short}
 use Rattle.tree.proofs.tests.short.Statement.{statement}
 use Rattle.tree.proofs.tests.short.Tie as tie
-use Rattle.tree.proofs.tests.short.Reads as reads
-use Rattle.tree.proofs.tests.short.Lts as lts
 
--- src/tests.rt:50:9
 returns : tie.Need-returns
-returns c = ?
+unfolding short
+returns c = rw (c .if1 .taken)
 
--- src/tests.rt:46:1
 returns-2 : tie.Need-returns-2
-returns-2 c = ?
+unfolding short
+returns-2 c = rw (c .if1 .left)
 
 pub short-spec : {M : Type 1} → statement M
 short-spec = tie.close (tie.spec returns returns-2)

@@ -1,58 +1,60 @@
+-- The invariant: the room is what working out the first i objects gives. Assumes nothing.
+use borrow.Author.Needs.{needs}
+use borrow.Author.Tests.{not-true, not-false}
+use native.Mathlib.Omega.{arith}
+use Prim.Native.Nat.{_≤_, _-_}
+use mathlib.Core.Path.{_≡_, refl, sym, _∙_}
+use mathlib.Core.Option.{some}
+use lib.ListN.{length}
+use Rattle.tree.specs.Work.{reworked}
+use Rattle.tree.proofs.Works.{none-made, turn-some, turn-none, turns-done}
 use Rattle.tree.proofs.work.rework_all.Statement.{statement}
 use Rattle.tree.proofs.work.rework_all.Tie as tie
-use Rattle.tree.proofs.work.rework_all.Reads as reads
-use Rattle.tree.proofs.work.rework_all.Lts as lts
-use Rattle.tree.proofs.work.rework_one.Reads as rework-one-reads
 
 abbrev Inv-loop : tie.InvT-loop
-Inv-loop w₀ out₀ n i₀ w out i = ?
+Inv-loop w₀ out₀ n i₀ w out i = (i ≤ n) × ((reworked i w₀ ≡ some w) × ((length w ≡ length w₀) × (length out ≡ length out₀)))
 
 abbrev μ-loop : tie.MeasureT-loop
-μ-loop w₀ out₀ n i₀ w out i = ?
+μ-loop w₀ out₀ n i₀ w out i = n - i
 
--- src/work.rt:123:5
 loop-holds : tie.Need-loop-holds Inv-loop μ-loop
-loop-holds c = ?
+loop-holds c = (omega arith, (none-made _, (refl, refl)))
 
--- src/work.rt:124:13
 rework-one-requires : tie.Need-rework-one-requires Inv-loop μ-loop
-rework-one-requires c κs = ?
+rework-one-requires c κs = search needs
 
--- src/work.rt:125:13
 same-length : tie.Need-same-length Inv-loop μ-loop
-same-length c = ?
+same-length c = search needs
 
--- src/work.rt:125:13
 same-length-2 : tie.Need-same-length-2 Inv-loop μ-loop
-same-length-2 c = ?
+same-length-2 c = search needs
 
--- src/work.rt:125:13
 returns : tie.Need-returns Inv-loop μ-loop
-returns c = ?
+returns c =
+    let k = c .before .before .before .before .before in
+    turn-none _ _ _ _ _ (k .before .before .before .loop-test .taken) (k .before .before .before .before .loop .inv .1 .0) (sym (not-true _ (c .if1 .taken)) ∙ k .rework-one .ensures .0)
 
--- src/work.rt:127:9
 add-i : tie.Need-add-i Inv-loop μ-loop
-add-i c = ?
+add-i c = search needs
 
--- src/work.rt:123:5
 loop-less : tie.Need-loop-less Inv-loop μ-loop
-loop-less c = ?
+loop-less c = search needs
 
--- src/work.rt:123:5
 loop-again : tie.Need-loop-again Inv-loop μ-loop
-loop-again c = ?
+loop-again c =
+    let k = c .before .before .before .before .before in
+    let o = k .rework-one in
+    let t = sym (not-false _ (c .if1 .left)) ∙ o .ensures .0 in
+    (omega arith, (turn-some _ _ _ _ (k .before .before .before .before .loop .inv .1 .0) t (o .ensures .1), (omega (arith, o .kept .0), omega (arith, o .kept .1 .0))))
 
--- src/work.rt:118:1
 same-length-3 : tie.Need-same-length-3 Inv-loop μ-loop
-same-length-3 c = ?
+same-length-3 c = search needs
 
--- src/work.rt:118:1
 same-length-4 : tie.Need-same-length-4 Inv-loop μ-loop
-same-length-4 c = ?
+same-length-4 c = search needs
 
--- src/work.rt:118:1
 returns-2 : tie.Need-returns-2 Inv-loop μ-loop
-returns-2 c = ?
+returns-2 c = turns-done _ _ _ _ (omega arith) (c .before .loop .inv .1 .0)
 
 pub rework-all-spec : {M : Type 1} → statement M
 rework-all-spec =
