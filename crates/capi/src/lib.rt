@@ -8,6 +8,7 @@ ghost use Rattle.list.specs.Answer.{answerOf};
 ghost use Rattle.inherit.specs.Given.{has as Given·has};
 ghost use Rattle.inherit.specs.Given.{lent};
 ghost use Rattle.inherit.specs.Compute.{valuesOf, answerFor, outFor};
+ghost use Rattle.tree.specs.Held.{yes};
 ghost use Rattle.tree.specs.Room.{roomOf};
 ghost use Rattle.tree.specs.Calls.{list as Edit·list, mark as Edit·mark, owners as Edit·owners, valuesOf as Calls·valuesOf, startTo, addTo, alterTo, undoTo, listTo, ownTo, dataTo, countsTo};
 ghost use Rattle.capi.specs.Places.{placesOf, settingsOf, mappingOf, yesOf, newOf};
@@ -161,6 +162,13 @@ pub extern "C" fn pt_compute<'a>(
     }
 }
 
+// 1 for yes, 0 for no.
+fn flag(b: bool) -> u32
+    ensures { λ r. ⌜ r ≡ yes b ⌝ }
+{
+    if b { 1 } else { 0 }
+}
+
 // The answer of a tree's call, in its places.
 fn put_answer(answer: &mut [u32; 8], a: Answer)
     ensures { λ _. ⌜ now (answer .exit) ≡ placesOf (Calls·valuesOf a) ⌝ }
@@ -176,7 +184,7 @@ fn put_answer(answer: &mut [u32; 8], a: Answer)
             0,
             0,
             length as u32,
-            present as u32,
+            flag(present),
             count as u32,
             0,
         ),

@@ -1,0 +1,20 @@
+-- The tree's call, its answer in the eight places. Assumes nothing.
+use borrow.Author.Needs.{needs}
+use mathlib.Core.Path.{_≡_, ap, _∙_}
+use Rattle.tree.specs.declared.Answer.{Answer}
+use Rattle.tree.specs.Calls.{valuesOf}
+use Rattle.capi.specs.Places.{placesOf}
+use Rattle.capi.proofs.pt_counts.Statement.{statement}
+use Rattle.capi.proofs.pt_counts.Tie as tie
+
+counts-requires : tie.Need-counts-requires
+counts-requires c κs = search needs
+
+put-answer-requires : tie.Need-put-answer-requires
+put-answer-requires c κs = search needs
+
+returns : tie.Need-returns
+returns c = c .put-answer .ensures ∙ ap (λ (x : Answer). placesOf (valuesOf x)) (c .before .counts .ensures)
+
+pub pt-counts-spec : {M : Type 1} → statement M
+pt-counts-spec = tie.close (tie.spec counts-requires put-answer-requires returns)

@@ -1,0 +1,36 @@
+-- The tree's call, with the masks that the mapping holds; its answer in the eight places. Assumes nothing.
+use borrow.Author.Needs.{needs}
+use mathlib.Core.Path.{_≡_, ap, _∙_}
+use Rattle.tree.specs.declared.Answer.{Answer}
+use Rattle.tree.specs.Calls.{valuesOf}
+use Rattle.capi.specs.Places.{placesOf}
+use denote.Ref.{now}
+use Rattle.inherit.specs.declared.Mapping.{Mapping}
+use Rattle.inherit.specs.Given.{lent}
+use Rattle.tree.specs.Calls.{Outcome, startTo}
+use Rattle.capi.specs.Places.{yesOf}
+use Rattle.capi.proofs.pt_start.Statement.{statement}
+use Rattle.capi.proofs.pt_start.Tie as tie
+
+mapping-of-requires : tie.Need-mapping-of-requires
+mapping-of-requires c κs = search needs
+
+start-requires : tie.Need-start-requires
+start-requires c κs = search needs
+
+put-answer-requires : tie.Need-put-answer-requires
+put-answer-requires c κs = search needs
+
+same-length : tie.Need-same-length
+same-length c = search needs
+
+returns : tie.Need-returns
+returns c =
+    let a = c .before .before .before .before .before .before .before .before .before .args in
+    let s = c .before .before .before .start .ensures in
+    let e = ap (λ (m : Mapping). startTo (a .objects) (a .steps) (a .rule) m (lent (yesOf (a .given)) (now (a .default))) (now (a .room))) (c .before .before .before .before .before .before .mapping-of .ensures) in
+    (c .put-answer .ensures ∙ ap (λ (x : Answer). placesOf (valuesOf x)) (s .0 ∙ ap (λ (o : Outcome). o .answer) e), s .1 ∙ ap (λ (o : Outcome). o .bytes) e)
+
+pub pt-start-spec : {M : Type 1} → statement M
+pt-start-spec =
+    tie.close (tie.spec mapping-of-requires start-requires put-answer-requires same-length returns)
