@@ -1,10 +1,11 @@
 # make test     the gate: everything is proved, run and compared (.ci/run)
 # make lib      libpipeteasel.a, for C and whatever calls C (include/pipeteasel.h)
-# make compare  the C library against the independent second program: CASES fresh cases from SEED
+# make compare  the C library against the independent second program: CASES fresh cases and TREES sequences from SEED
 # make cases    the stored cases and their answers anew, both by the second program
-# make bench    instructions by callgrind (not a test)
+# make bench    instructions by callgrind, and a full tree's time (not a test)
 
 CASES ?= 100000
+TREES ?= 10000
 SEED ?= 1
 CARGO = cargo build --quiet --release --offline --target-dir target/cargo
 SECOND = target/cargo/release/second
@@ -25,13 +26,16 @@ compare: lib
 	$(CARGO) --manifest-path compare/Cargo.toml
 	target/cargo/release/compare list --cases $(CASES) --seed $(SEED)
 	target/cargo/release/compare compute --cases $(CASES) --seed $(SEED)
+	target/cargo/release/compare tree --cases $(TREES) --seed $(SEED)
 
 cases: second
 	$(SECOND) cases list examples/lists.txt > crates/vectors_list/stdin
 	$(SECOND) answer < crates/vectors_list/stdin > crates/vectors_list/stdout
 	$(SECOND) cases inherit > crates/vectors_inherit/stdin
 	$(SECOND) answer < crates/vectors_inherit/stdin > crates/vectors_inherit/stdout
+	$(SECOND) cases tree > crates/vectors_tree/stdin
+	$(SECOND) answer < crates/vectors_tree/stdin > crates/vectors_tree/stdout
 
-# instructions for one reading and one computation, for the library and for the second program
+# instructions for one reading and one computation, for the library and for the second program; one change on a full tree
 bench: lib
 	bash bench/run

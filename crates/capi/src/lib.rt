@@ -175,33 +175,15 @@ fn put_answer(answer: &mut [u32; 8], a: Answer)
 {
     match a {
         Answer::Done {
-            length,
+            length: long,
             present,
-            count,
-        } => put_values(
-            answer,
-            0,
-            0,
-            0,
-            length as u32,
-            flag(present),
-            count as u32,
-            0,
-        ),
+            count: held,
+        } => put_values(answer, 0, 0, 0, long as u32, flag(present), held as u32, 0),
         Answer::Refused {
-            number,
-            list,
-            offset,
-        } => put_values(
-            answer,
-            number as u32,
-            list as u32,
-            offset as u32,
-            0,
-            0,
-            0,
-            0,
-        ),
+            number: why,
+            list: which,
+            offset: place,
+        } => put_values(answer, why as u32, which as u32, place as u32, 0, 0, 0, 0),
     }
 }
 

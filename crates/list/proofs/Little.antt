@@ -1,8 +1,8 @@
 -- Laws of little-endian numbers, over the width: split, bound, inverse.
-use mathlib.Core.Path.{_≡_, refl, sym, ap, ap₂, _∙_}
+use mathlib.Core.Path.{_≡_, refl, sym, ap, _∙_}
 use mathlib.Core.List.{List, [], _∷_, _++_}
 use Prim.Native.Nat.{ℕ, zero, suc, _+_, _*_, _/_, _%_, _^_, _<_, _≤_}
-use native.Mathlib.Nat.{suc-add, zero-add, add-zero, mul-zero, mul-assoc, mul-left-comm, mul-comm, one-mul, pow-suc, le-of-suc-le-suc, not-suc-le-zero}
+use native.Mathlib.Nat.{suc-add, zero-add, add-zero, mul-zero, mul-assoc, mul-left-comm, one-mul, pow-suc, le-of-suc-le-suc, not-suc-le-zero}
 use native.Mathlib.Nat.{mod-add-div, mod-eq-of-lt, div-eq-of-lt, div-lt-iff-lt-mul, add-mul-div-left, add-mul-mod-self-left}
 use native.Mathlib.Omega.{arith}
 use lib.ListN.{length, getD, drop, take, length-drop, drop-of-length-le}

@@ -1,6 +1,6 @@
 -- What a change and an undo make of a room's area, part by part; where they are refused, so is working the lists out in the order of the objects' numbers.
 use mathlib.Core.Path.{_≡_, sym, ap, _∙_, subst}
-use mathlib.Core.Bool.{true, cond}
+use mathlib.Core.Bool.{true}
 use mathlib.Core.Logic.{_⊎_, inl, inr}
 use mathlib.Core.List.{List, _∷_}
 use mathlib.Core.Option.{Option, none, some}
@@ -10,14 +10,11 @@ use native.Mathlib.Decide.{ℕ-discrete}
 use native.Mathlib.Omega.{arith}
 use lib.ListN.{length, getD, set, length-set}
 use lib.Seq.{getD-set-same}
-use lib.Dec.{eqb}
 use borrow.Author.Tests.{eq-eqb, ne-eqb}
 use Rattle.list.specs.Bytes.{part, putAt}
 use Rattle.list.proofs.Places.{split, length-part, length-put, part-put-before, part-put-after, part-put-on, put-whole, byte-same}
-use Rattle.inherit.specs.Given.{Optional}
-use Rattle.tree.specs.Held.{held, slotFor, slotOk}
+use Rattle.tree.specs.Held.{held, slotOk}
 use Rattle.tree.specs.Room.{limit, depth, objects, kept, ownAt, stepsAt, settings, own, slot, step, numberOf, savedIn}
-use Rattle.tree.specs.Work.{computed}
 use Rattle.tree.specs.Calls.{pushed, popped, settled, changed, latest, left, undone}
 use Rattle.tree.specs.Replay.{tab}
 use Rattle.tree.proofs.Tab.{tab-ext}

@@ -15,7 +15,8 @@ use Rattle.inherit.specs.Compute.{ordinary}
 use Rattle.tree.specs.Held.{held, slotFor, slotOk, idIn, idFor, idOk, parentOf, kindOf, markOf, typeOf, ownerOf, groupOf, ownSlot, ownList, blockOk, New, yes, blockFor}
 use Rattle.tree.specs.Calls.{short}
 use Rattle.tree.specs.Replay.{reads}
-use Rattle.tree.proofs.Slots.{slot-length, held-slot, slot-good, id-length, id-held, id-good}
+use Rattle.tree.proofs.Lays.{length-slot}
+use Rattle.tree.proofs.Slots.{held-slot, slot-good, id-length, id-held, id-good}
 
 -- ---- parts of bytes one after the other
 
@@ -106,7 +107,7 @@ module _ (new : New) (t : length (new .type) ≡ 16) (o : ordinary (new .owner) 
   new-laid =
       let lo = id-length (new .owner) o in
       let lg = id-length (new .group) g in
-      let ls = slot-length (new .list) s in
+      let ls = length-slot (new .list) s in
       let h = min 255 (new .parent) ∷ yes (new .container) ∷ yes (new .mark) ∷ [] in
       let c = slotFor (new .list) in
       let d = idFor (new .group) ++ c in

@@ -31,7 +31,8 @@ use Rattle.tree.specs.Room.{ruleOf, mappingOf, defaultOf}
 use Rattle.tree.specs.Work.{given, settingsIn, givenIn, answerIn, resultIn, taken, computed}
 use Rattle.tree.specs.Calls.{short, bytesIf}
 use Rattle.tree.specs.Replay.{reads}
-use Rattle.tree.proofs.Slots.{slot-length, held-slot, slot-good, slot-reads, id-ordinary}
+use Rattle.tree.proofs.Lays.{length-slot}
+use Rattle.tree.proofs.Slots.{held-slot, slot-good, slot-reads, id-ordinary}
 use Rattle.tree.proofs.Blocks.{block-sound}
 
 -- ---- a list that was computed
@@ -84,7 +85,7 @@ module _ (e : List ℕ) (p : Optional) (b : List ℕ) where
     computed-held = held-slot o computed-short
 
     pub computed-length : length (slotFor o) ≡ 1027
-    computed-length = slot-length o computed-short
+    computed-length = length-slot o computed-short
 
 -- ---- a list that was refused
 

@@ -2,7 +2,7 @@
 -- of the accepted changes not since undone gives; every computed list is the one worked out afresh from the root (Replay's fromRoot, up the parents); as many steps are kept as
 -- document 01 says; the next call is accepted exactly where the past says so, and where it is refused no byte changes; undo answers 11 exactly where no kept step is left, else it is done.
 -- Besides, for any well-formed room, reached by calls or not: a call leaves it well formed, and an accepted one leaves every list fresh.
-use mathlib.Core.Path.{_≡_, refl, sym, ap, _∙_, subst}
+use mathlib.Core.Path.{_≡_, refl, sym, ap, _∙_}
 use mathlib.Core.Bool.{Bool, true, false, _&&_}
 use mathlib.Core.List.{List, [], _∷_, _++_, append-assoc}
 use mathlib.Core.Option.{Option, none, some}
@@ -10,28 +10,28 @@ use Prim.Native.Nat.{ℕ, zero, suc, _+_, _*_, _≤_, _<_}
 use native.Mathlib.Omega.{arith}
 use lib.ListN.{length, getD, drop, replicate, length-append, length-drop, length-replicate}
 use lib.Seq.{take-at}
-use lib.Dec.{leb, ltb}
+use lib.Dec.{leb}
 use borrow.Author.Tests.{leb-true, lt-ltb}
 use Rattle.list.specs.Bytes.{front, part}
 use Rattle.list.proofs.Tests.{both-true}
 use Rattle.inherit.specs.declared.Mapping.{Mapping}
 use Rattle.inherit.specs.Given.{Optional, absent}
 use Rattle.inherit.specs.Compute.{ruleOk}
-use Rattle.tree.specs.declared.Answer.{Answer}
 use Rattle.tree.specs.declared.Answer.the-variants.{Done, Refused}
 use Rattle.tree.specs.Held.{held}
-use Rattle.tree.specs.Room.{limit, depth, objects, kept, roomFor, limitsOk, settings, settingsFor, own, slot, step, area, emptyRoom}
-use Rattle.tree.specs.Formed.{Head, stepsOk, formed}
-use Rattle.tree.specs.Calls.{Outcome, need, short, onObject, told, bytesIf, copied, startOk, finishUndo, undone, undoTo, listTo}
+use Rattle.tree.specs.Room.{limit, depth, objects, kept, roomFor, limitsOk, settings, settingsFor, own, slot, area, emptyRoom}
+use Rattle.tree.specs.Formed.{stepsOk, formed}
+use Rattle.tree.specs.Calls.{need, short, onObject, told, bytesIf, copied, startOk, finishUndo, undone, undoTo, listTo}
 use Rattle.tree.specs.History.{State, Call, edit, undo, Rules, settled, edited, undone as machine-undone, after, start, run, replay, afresh, remains, accepts, isSome, orElse, positive}
-use Rattle.tree.specs.Replay.{Change, Tree, Blocks, Undo, reads, when, work, rules, tab, shown}
+use Rattle.tree.specs.Replay.{Change, Tree, reads, when, work, rules, tab, shown}
 use Rattle.tree.specs.Played.{callTo, accepted, played, Proper, Propers}
 use Rattle.tree.proofs.Tab.{length-tab, getD-tab}
-use Rattle.tree.proofs.Settings.{settings-length, settings-good}
-use Rattle.tree.proofs.Histories.{Holds, history}
+use Rattle.tree.proofs.Lays.{length-settings}
+use Rattle.tree.proofs.Settings.{settings-good}
+use Rattle.tree.proofs.Histories.{history}
 use Rattle.tree.proofs.Lawful.{lawful}
-use Rattle.tree.proofs.Keeps.{Formed, formed-facts, facts-formed}
-use Rattle.tree.proofs.Plays.{Ends, call-ends}
+use Rattle.tree.proofs.Keeps.{facts-formed}
+use Rattle.tree.proofs.Plays.{call-ends}
 
 -- ---- any well-formed room
 
@@ -92,7 +92,7 @@ module _ (n s rule : ℕ) (m : Mapping) (default : Optional) (r : List ℕ) (ok 
 
   empty-length : length (emptyRoom n s rule m default) ≡ roomFor n s
   unfolding emptyRoom
-  empty-length = simp (length-append, length-replicate, settings-length rule m default few) (omega arith)
+  empty-length = simp (length-append, length-replicate, length-settings rule m default few) (omega arith)
 
   first-length : length first ≡ length r
   unfolding first
@@ -120,7 +120,7 @@ module _ (n s rule : ℕ) (m : Mapping) (default : Optional) (r : List ℕ) (ok 
       let z : List ℕ = replicate (n * 2211 + s * 1186) 0 in
       let w : List ℕ = (n ∷ s ∷ 0 ∷ 0 ∷ []) ++ (settingsFor rule m default ++ z) in
       rw (append-assoc (settingsFor rule m default) z (drop (length w) r))
-      (take-at (settingsFor rule m default) (z ++ drop (length w) r) 1044 (settings-length rule m default few))
+      (take-at (settingsFor rule m default) (z ++ drop (length w) r) 1044 (length-settings rule m default few))
 
   first-formed : formed first ≡ true
   unfolding stepsOk

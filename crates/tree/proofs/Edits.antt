@@ -1,16 +1,13 @@
 -- What a change alters in own data: what was set shows, the rest is as it was, and good own data stays good.
 use mathlib.Core.Path.{_≡_, refl, sym, ap, _∙_}
-use mathlib.Core.Bool.{Bool, true, _&&_}
+use mathlib.Core.Bool.{Bool, true}
 use mathlib.Core.List.{List, [], _∷_, _++_}
 use Prim.Native.Nat.{ℕ, _+_, _≤_}
 use native.Mathlib.Omega.{arith}
 use lib.ListN.{length, getD, length-append}
 use lib.Seq.{getD-set-same}
-use lib.Dec.{eqb}
-use borrow.Author.Tests.{eq-eqb, eqb-true}
-use Rattle.list.specs.Bytes.{part, putAt, sameBytes}
+use Rattle.list.specs.Bytes.{part, putAt}
 use Rattle.list.proofs.Places.{length-put, part-put-same, part-put-before, part-put-after, part-put-in, put-one, byte-same}
-use Rattle.list.proofs.Sids.{same-yes, same-true}
 use Rattle.list.proofs.Tests.{both-true}
 use Rattle.inherit.specs.Given.{Optional}
 use Rattle.inherit.specs.Compute.{ordinary}
@@ -18,14 +15,15 @@ use Rattle.tree.specs.Held.{slotFor, idFor, parentOf, kindOf, markOf, ty
 use Rattle.tree.specs.Calls.{Edit, list, mark, owners, editAt, editBytes, short}
 use Rattle.tree.specs.Replay.{reads, fine}
 use Rattle.tree.proofs.Applied.{Alike, alike-sym, alike-said}
-use Rattle.tree.proofs.Slots.{slot-length, held-slot, slot-good, id-length, id-held, id-good}
+use Rattle.tree.proofs.Lays.{length-slot}
+use Rattle.tree.proofs.Slots.{held-slot, slot-good, id-length, id-held, id-good}
 use Rattle.tree.proofs.Blocks.{part-all, part-first, part-past, type-part, Laid, Shows, block-sound, laid-good, laid-shows, yes-bit}
 
 -- the altered bytes lie in own data
 pub edit-fits : (e : Edit) → fine e ≡ true → length (editBytes e) + editAt e ≤ 1184
 unfolding editAt editBytes fine
 edit-fits (list o) h =
-    let w = slot-length o (both-true (reads o) (short o) h .1) in
+    let w = length-slot o (both-true (reads o) (short o) h .1) in
     omega arith
 edit-fits (mark m) h = omega arith
 edit-fits (owners o g) h =
@@ -43,7 +41,7 @@ module _ (b : List ℕ) (n : length b ≡ 1184) where
   unfolding editAt editBytes
   list-laid o h =
       let x = slotFor o in
-      let w : length x ≡ 1027 = slot-length o h in
+      let w : length x ≡ 1027 = length-slot o h in
       let c = putAt 157 x b in
       let l : length c ≡ 1184 = length-put 157 x b (omega arith) ∙ n in
       let before : (a k : ℕ) → a + k ≤ 157 → part a k c ≡ part a k b = λ a k i. part-put-before a k 157 x b i (omega arith) in

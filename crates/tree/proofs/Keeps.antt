@@ -1,27 +1,23 @@
 -- A well-formed room as facts; and what becomes of one where a change or an undo ends: it is well formed again and shows what the replay has.
 use mathlib.Core.Path.{_≡_, refl, sym, ap, _∙_, subst}
-use mathlib.Core.Bool.{Bool, true, false, _&&_}
-use mathlib.Core.Logic.{_⊎_}
-use mathlib.Core.List.{List, [], _∷_}
-use mathlib.Core.Option.{Option, none, some}
-use Prim.Native.Nat.{ℕ, zero, suc, _+_, _≤_, _<_}
+use mathlib.Core.Bool.{true}
+use mathlib.Core.List.{List, []}
+use Prim.Native.Nat.{ℕ, _≤_, _<_}
 use native.Mathlib.Nat.{zero-add}
 use native.Mathlib.Omega.{arith}
 use lib.ListN.{length, getD}
 use Rattle.list.specs.Bytes.{front}
 use Rattle.list.proofs.Tests.{both-true}
-use Rattle.inherit.specs.Given.{Optional}
 use Rattle.tree.specs.Held.{held, blockOk, slotOk, parentOf}
 use Rattle.tree.specs.Room.{limit, depth, objects, kept, roomFor, settings, own, slot, step, area}
 use Rattle.tree.specs.Formed.{Head, settingsOk, placed, objectOk, stepsOk, formed}
-use Rattle.tree.specs.History.{State, settled}
-use Rattle.tree.specs.Replay.{Change, Blocks, Undo, Tree, work, rules, tab, undoIn, shown}
-use Rattle.tree.proofs.Tested.{head-says, head-said, Forms, formed-parts, formed-from}
+use Rattle.tree.specs.Replay.{work, tab, undoIn, shown}
+use Rattle.tree.proofs.Tested.{head-says, head-said, formed-parts, formed-from}
 use Rattle.tree.proofs.Applied.{every-at, every-all, alike-same, steps-same, steps-shift}
 use Rattle.tree.proofs.Turns.{Owned, owned-off, owned-ordered}
 use Rattle.tree.proofs.Tab.{length-tab, getD-tab}
 use Rattle.tree.proofs.Paths.{Ordered, inOrder, in-order}
-use Rattle.tree.proofs.Areas.{Ready, tab-as, area-byte, area-length, area-ready, area-settings, area-own, area-slot, area-step, front-byte, front-length, area-front}
+use Rattle.tree.proofs.Areas.{tab-as, area-byte, area-length, area-settings, area-own, area-slot, area-step, front-byte, front-length, area-front}
 use Rattle.tree.proofs.Became.{Became}
 
 -- ---- a well-formed room

@@ -44,7 +44,7 @@ zero-more a i l m e h =
 
 -- ---- how long
 
-length-padded : (n : ℕ) (s : List ℕ) → length s ≤ n → length (s ++ replicate (n - length s) 0) ≡ n
+pub length-padded : (n : ℕ) (s : List ℕ) → length s ≤ n → length (s ++ replicate (n - length s) 0) ≡ n
 length-padded n s h = simp (length-append, length-replicate) (omega arith)
 
 pub short-present : (s : List ℕ) → short (present s) ≡ true → length s ≤ 1024
@@ -125,19 +125,6 @@ module _ (new : New) (t : length (new .type) ≡ 16) (o : length (new .owner) �
       ∙ put-whole _ l (w₃ .long ∙ sym h)
       ∙ regroup (x ∷ y ∷ z ∷ []) (new .type) (idFor (new .owner)) (idFor (new .group)) (slotFor (new .list))
       ∙ rw (ex, ey, ez)
-
-  pub length-block : length (blockFor new) ≡ 1184
-  unfolding blockFor
-  length-block =
-      omega (
-        arith,
-        length-append (new .type) (idFor (new .owner) ++ (idFor (new .group) ++ slotFor (new .list))),
-        length-append (idFor (new .owner)) (idFor (new .group) ++ slotFor (new .list)),
-        length-append (idFor (new .group)) (slotFor (new .list)),
-        length-id (new .owner) o,
-        length-id (new .group) g,
-        length-slot (new .list) s,
-      )
 
 -- the settings
 module _ (rule : ℕ) (m : Mapping) (o : Optional) (s : short o ≡ true) where

@@ -24,3 +24,4 @@ pub mod Demand3
 pub mod Worked
 pub mod Answered
 pub mod Changing
+pub mod Determined

@@ -1,25 +1,25 @@
 -- What History's machine makes of own data that is given by number: an alteration, an add, an undo, and the refusals.
-use mathlib.Core.Path.{_≡_, refl, sym, ap, _∙_, subst}
-use mathlib.Core.Bool.{Bool, true, false, cond, _&&_}
+use mathlib.Core.Path.{_≡_, refl, sym, ap, _∙_}
+use mathlib.Core.Bool.{Bool, true, false, _&&_}
 use mathlib.Core.Logic.{_≢_}
 use mathlib.Core.List.{List, [], _∷_, _++_}
-use mathlib.Core.Option.{Option, none, some}
-use Prim.Native.Nat.{ℕ, zero, suc, _+_, _-_, _≤_, _<_}
+use mathlib.Core.Option.{none}
+use Prim.Native.Nat.{ℕ, _+_, _-_, _<_}
 use native.Mathlib.Omega.{arith}
-use lib.ListN.{length, getD, take, set}
-use lib.Dec.{eqb, ltb}
-use borrow.Author.Tests.{lt-ltb, le-ltb, eq-eqb, ne-eqb}
+use lib.ListN.{getD, take, set}
+use lib.Dec.{ltb}
+use borrow.Author.Tests.{lt-ltb, le-ltb}
 use Rattle.list.specs.Bytes.{putAt}
 use Rattle.list.proofs.Places.{split}
 use Rattle.inherit.specs.Given.{Optional}
 use Rattle.inherit.specs.Compute.{ordinary}
-use Rattle.tree.specs.Held.{New, blockFor, kindOf}
+use Rattle.tree.specs.Held.{New, blockFor}
 use Rattle.tree.specs.Room.{tagOf, numberOf, savedIn}
 use Rattle.tree.specs.Formed.{placed}
 use Rattle.tree.specs.Calls.{Edit, editAt, editBytes, short, nobody}
-use Rattle.tree.specs.History.{Call, edit, undo, settled, edited, undone, after}
-use Rattle.tree.specs.Replay.{Change, add, alter, Undo, off, again, Blocks, Tree, reads, fine, when, change, keep, back, work, rules, tab, undoIn}
-use Rattle.tree.proofs.Tab.{length-tab, getD-tab, tab-set, tab-ext, tab-last, tab-take, tab-first}
+use Rattle.tree.specs.History.{edit, undo, settled, edited, undone, after}
+use Rattle.tree.specs.Replay.{add, alter, Undo, off, again, Blocks, reads, fine, change, keep, back, work, rules, tab, undoIn}
+use Rattle.tree.proofs.Tab.{length-tab, getD-tab, tab-set, tab-ext, tab-last, tab-take}
 use Rattle.tree.proofs.Applied.{upd, upd-same, upd-other}
 
 -- own data with one block replaced, one more, one less

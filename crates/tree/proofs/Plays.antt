@@ -2,15 +2,14 @@
 -- refused exactly where the machine refuses, and then with every byte as it was.
 use mathlib.Core.Path.{_≡_, refl, sym, ap, _∙_, subst}
 use mathlib.Core.Bool.{Bool, true, false, cond, _&&_}
-use mathlib.Core.Logic.{_⊎_, inl, inr, ⊎-elim}
-use mathlib.Core.List.{List, [], _∷_, _++_}
+use mathlib.Core.Logic.{_⊎_, ⊎-elim}
+use mathlib.Core.List.{List, _∷_}
 use mathlib.Core.Option.{Option, none, some}
-use Prim.Native.Nat.{ℕ, zero, suc, _+_, _-_, _≤_, _<_, min}
-use native.Mathlib.Nat.{add-comm}
+use Prim.Native.Nat.{ℕ, suc, _+_, _-_, _≤_, _<_, min}
 use native.Mathlib.Omega.{arith}
-use lib.ListN.{length, getD, take}
+use lib.ListN.{length, take}
 use lib.Seq.{take-all}
-use lib.Dec.{eqb, ltb}
+use lib.Dec.{ltb}
 use borrow.Author.Tests.{lt-ltb, le-ltb, ltb-true}
 use Rattle.list.specs.Bytes.{putAt, front, part}
 use Rattle.list.specs.Entry.{access}
@@ -21,12 +20,11 @@ use Rattle.list.proofs.Places.{split, length-part, put-whole}
 use Rattle.list.proofs.Tests.{both-true}
 use Rattle.inherit.specs.Given.{Optional, absent, present}
 use Rattle.inherit.specs.Compute.{ordinary}
-use Rattle.tree.specs.declared.Answer.{Answer}
 use Rattle.tree.specs.Held.{New, held, isDone, blockFor}
-use Rattle.tree.specs.Room.{limit, depth, objects, kept, roomFor, settings, own, slot, step, tagOf, numberOf, savedIn, area}
+use Rattle.tree.specs.Room.{limit, depth, objects, kept, settings, own, slot, step, tagOf, numberOf, savedIn, area}
 use Rattle.tree.specs.Formed.{Head, placed, stepsOk, formed}
 use Rattle.tree.specs.Calls.{Edit, list, mark, owners, Outcome, refuse, need, onReading, readable, short, onObject, tested, told as told-in, editAt, editBytes, changed, latest, left, undone, finish, finishUndo, nobody, addTo, alterTo, undoTo}
-use Rattle.tree.specs.History.{State, Call, edit, undo, settled, after}
+use Rattle.tree.specs.History.{Call, edit, undo, settled, after}
 use Rattle.tree.specs.Replay.{Change, add, alter, Undo, off, again, Tree, reads, fine, when, work, rules, tab, undoIn, shown}
 use Rattle.tree.specs.Played.{callTo, accepted, Proper}
 use Rattle.tree.proofs.Applied.{upd, upd-other, ahead, Adds, Again}
@@ -34,8 +32,8 @@ use Rattle.tree.proofs.Turns.{Owned, owned-off, owned-put, owned-add, p
 use Rattle.tree.proofs.Tab.{tab-push, tab-first}
 use Rattle.tree.proofs.Paths.{inOrder}
 use Rattle.tree.proofs.Blocks.{new-shows, new-good}
-use Rattle.tree.proofs.Edits.{edit-fits, edit-length, edit-keeps, edit-good}
-use Rattle.tree.proofs.Areas.{Ready, tab-as, area-byte, area-length, area-ready, area-settings, area-own, area-slot, area-step}
+use Rattle.tree.proofs.Edits.{edit-fits, edit-keeps, edit-good}
+use Rattle.tree.proofs.Areas.{tab-as, area-byte, area-length, area-ready, area-settings, area-own, area-slot, area-step}
 use Rattle.tree.proofs.Became.{Became, change-became, change-refused, undo-became, undo-refused}
 use Rattle.tree.proofs.Keeps.{Formed, formed-facts, facts-formed, steps-as, work-as, new-limit, new-depth, new-length, new-settings, new-formed, new-shown}
 use Rattle.tree.proofs.Machine.{Asked, alter-after, alter-none, add-after, add-none, undo-none, undo-off, undo-again}

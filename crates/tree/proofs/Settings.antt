@@ -4,7 +4,7 @@ use mathlib.Core.Bool.{true}
 use mathlib.Core.List.{List, [], _∷_, _++_}
 use Prim.Native.Nat.{ℕ, _≤_, _<_}
 use native.Mathlib.Omega.{arith}
-use lib.ListN.{length, length-append}
+use lib.ListN.{length}
 use Rattle.list.specs.Bytes.{le, spell}
 use Rattle.list.proofs.Little.{le-append, le-spell, length-spell}
 use Rattle.inherit.specs.declared.Mapping.{Mapping}
@@ -15,7 +15,8 @@ use Rattle.tree.specs.Room.{ruleOf, mappingOf, defaultSlot, defaultOf, s
 use Rattle.tree.specs.Formed.{settingsOk}
 use Rattle.tree.specs.Calls.{short}
 use Rattle.tree.specs.Replay.{reads}
-use Rattle.tree.proofs.Slots.{slot-length, held-slot, slot-good}
+use Rattle.tree.proofs.Lays.{length-slot}
+use Rattle.tree.proofs.Slots.{held-slot, slot-good}
 use Rattle.tree.proofs.Blocks.{part-all, part-past}
 
 word : (x : ℕ) (q : List ℕ) → x < 0x100000000 → le 4 (spell 4 x ++ q) ≡ x
@@ -39,10 +40,6 @@ module _ (rule : ℕ) (m : Mapping) (default : Optional) where
       rw (word (m .read) f r, word (m .write) e w, word (m .execute) d x, word (m .all) c a) refl
 
   module _ (s : short default ≡ true) where
-    pub settings-length : length (settingsFor rule m default) ≡ 1044
-    unfolding settingsFor
-    settings-length = simp (length-append, length-spell, slot-length default s)
-
     pub default-slot : defaultSlot (settingsFor rule m default) ≡ slotFor default
     unfolding settingsFor
     default-slot =
@@ -56,7 +53,7 @@ module _ (rule : ℕ) (m : Mapping) (default : Optional) where
         ∙ part-past 4 8 1027 (spell 4 (m .write)) e (length-spell 4 (m .write))
         ∙ part-past 4 4 1027 (spell 4 (m .execute)) d (length-spell 4 (m .execute))
         ∙ part-past 4 0 1027 (spell 4 (m .all)) c (length-spell 4 (m .all))
-        ∙ part-all 1027 c (slot-length default s)
+        ∙ part-all 1027 c (length-slot default s)
 
     pub default-of : defaultOf (settingsFor rule m default) ≡ default
     default-of = ap held default-slot ∙ held-slot default s

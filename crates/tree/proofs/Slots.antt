@@ -4,7 +4,7 @@ use mathlib.Core.Bool.{Bool, true, false, _&&_}
 use mathlib.Core.List.{List, _++_}
 use Prim.Native.Nat.{ℕ, zero, suc, _-_, _≤_, _<_}
 use native.Mathlib.Omega.{arith}
-use lib.ListN.{length, getD, take, drop, replicate, length-append, length-replicate}
+use lib.ListN.{length, getD, take, drop, replicate}
 use lib.Seq.{take-at, take-all}
 use lib.Dec.{leb}
 use borrow.Author.Tests.{leb-true, le-leb, eqb-true}
@@ -21,11 +21,9 @@ use Rattle.tree.specs.Held.{hasList, bytesIn, held, slotFor, isDone, slo
 use Rattle.tree.specs.Calls.{short}
 use Rattle.tree.specs.Replay.{reads}
 use Rattle.tree.proofs.Tested.{bytes-most}
+use Rattle.tree.proofs.Lays.{length-padded, length-id}
 
 -- bytes with zeros behind them
-length-padded : (n : ℕ) (s : List ℕ) → length s ≤ n → length (s ++ replicate (n - length s) 0) ≡ n
-length-padded n s h = simp (length-append, length-replicate) (omega arith)
-
 front-of : (s : List ℕ) (n z : ℕ) → length (s ++ replicate z 0) ≡ n → part 0 (length s) (take n (s ++ replicate z 0)) ≡ s
 unfolding part
 front-of s n z e = ap (take (length s)) (take-all n (s ++ replicate z 0) (omega arith)) ∙ take-at s (replicate z 0) (length s) refl
@@ -44,13 +42,6 @@ zeros-good (suc n) h = refl
 zeros-slot : slotOk (slotFor absent) ≡ true
 unfolding slotFor
 zeros-slot = zeros-good 1027 (omega arith)
-
-pub slot-length : (o : Optional) → short o ≡ true → length (slotFor o) ≡ 1027
-unfolding slotFor short
-slot-length absent h = length-replicate {A = ℕ} 1027 0
-slot-length (present s) h =
-    let m = leb-true (length s) 1024 h in
-    simp (length-append, length-spell 2 (length s), length-replicate) (omega arith)
 
 -- its first byte, its length and its bytes
 slot-tag : (s : List ℕ) → getD (slotFor (present s)) 0 0 ≡ 1
@@ -110,8 +101,7 @@ ordinary-most s h =
     omega (arith, o .exact, sid-most s)
 
 pub id-length : (s : List ℕ) → ordinary s ≡ true → length (idFor s) ≡ 69
-unfolding idFor
-id-length s h = ap suc (length-padded 68 s (ordinary-most s h))
+id-length s h = length-id s (ordinary-most s h)
 
 pub id-held : (s : List ℕ) → ordinary s ≡ true → idIn (idFor s) ≡ s
 unfolding idFor idIn part

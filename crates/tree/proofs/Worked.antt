@@ -1,16 +1,15 @@
 -- The definitions, computed: the formula and its bound, and the tree of document 01's script, where the worked parent is the root's own list and one container stands below it.
 use mathlib.Core.Path.{_≡_, refl}
-use mathlib.Core.Bool.{Bool, true, false}
-use mathlib.Core.List.{List, [], _∷_, _++_, map, flatten}
-use mathlib.Core.Option.{Option, none, some}
+use mathlib.Core.Bool.{true, false}
+use mathlib.Core.List.{List, [], _∷_, _++_, flatten}
+use mathlib.Core.Option.{some}
 use Prim.Native.Nat.{ℕ, _+_, _*_, _≤_}
 use native.Mathlib.Omega.{arith}
-use lib.ListN.{length, replicate}
+use lib.ListN.{replicate}
 use Rattle.list.specs.Bytes.{le, spell, sameBytes, guidAt, part}
 use Rattle.list.specs.Identity.{sidLen, isSid, creator, placeholderOf, identityOf}
 use Rattle.list.specs.Entry.{plainOf, objectOf, objectKind, kindOk, flagsOk, headOf, wordAfter, entryBytes, tailOk, need, entryOf}
 use Rattle.list.specs.List.{revOk, headerOk, cut, entriesOf, headBytes, render, onGood, walkOf, finish, checkOf}
-use Rattle.inherit.specs.declared.Mapping.{Mapping}
 use Rattle.inherit.specs.Given.{Optional, absent, present, entriesIf, typesOk, typesOf}
 use Rattle.inherit.specs.Copies.{anyHeritable, among, typeApplies, pass, kept, takesFirst, firstPart, takesSecond, secondPart, fromParent, own, fromCreator}
 use Rattle.inherit.specs.Last.{inPlace, mapped, resolved, lastOf, lastStep}

@@ -3,7 +3,7 @@ use Prim.Native.Nat.{ℕ, _+_, _-_, _*_, min}
 use mathlib.Core.List.{List, [], _∷_, _++_}
 use mathlib.Core.Bool.{Bool, true, false, cond, _&&_}
 use mathlib.Core.Option.{Option, none, some}
-use lib.ListN.{length, getD, take, set}
+use lib.ListN.{length, set}
 use lib.Dec.{eqb, leb, ltb}
 use Rattle.list.specs.Bytes.{part, putAt, front}
 use Rattle.list.specs.Entry.{access}

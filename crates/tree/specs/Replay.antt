@@ -4,14 +4,14 @@ use mathlib.Core.List.{List, [], _∷_, _++_}
 use mathlib.Core.Bool.{Bool, true, false, cond, _&&_}
 use mathlib.Core.Option.{Option, none, some}
 use lib.ListN.{length, getD, take, set}
-use lib.Dec.{eqb, leb, ltb}
+use lib.Dec.{eqb, ltb}
 use Rattle.list.specs.Bytes.{putAt}
 use Rattle.list.specs.Entry.{access}
 use Rattle.list.specs.List.{checkOf}
 use Rattle.inherit.specs.Given.{Optional, absent, present}
 use Rattle.inherit.specs.Compute.{ordinary}
 use Rattle.tree.specs.Held.{New, isDone, blockFor, parentOf}
-use Rattle.tree.specs.Room.{objects, kept, limit, own, slot, step, tagOf, numberOf, savedIn, settings}
+use Rattle.tree.specs.Room.{objects, kept, limit, own, slot, step, tagOf, numberOf, savedIn}
 use Rattle.tree.specs.Formed.{placed}
 use Rattle.tree.specs.Work.{computed}
 use Rattle.tree.specs.Calls.{Edit, list, mark, owners, short, editAt, editBytes, nobody}

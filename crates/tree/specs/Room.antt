@@ -1,9 +1,9 @@
 -- Where the parts of a room lie (docs/ROOM.md): four numbers, the settings, the objects, the kept steps.
-use Prim.Native.Nat.{ℕ, zero, suc, _+_, _*_}
+use Prim.Native.Nat.{ℕ, _+_, _*_}
 use mathlib.Core.List.{List, [], _∷_, _++_}
 use mathlib.Core.Bool.{Bool, cond, _&&_}
-use lib.ListN.{length, getD, take, drop, replicate}
-use lib.Dec.{eqb, leb}
+use lib.ListN.{getD, take, drop, replicate}
+use lib.Dec.{leb}
 use Rattle.list.specs.Bytes.{le, spell, part}
 use Rattle.inherit.specs.Given.{Optional}
 use Rattle.inherit.specs.declared.Mapping.{Mapping}

@@ -6,7 +6,7 @@ ghost use Prim.Native.Nat.{_+_, _≤_, _<_};
 ghost use lib.ListN.{length};
 ghost use Rattle.tree.specs.Room.{limit, depth, kept, numberOf, roomFor, area};
 ghost use Rattle.tree.specs.Formed.{Head};
-ghost use Rattle.tree.specs.Calls.{changed, latest, left, undone, finish, finishUndo};
+ghost use Rattle.tree.specs.Calls.{changed, latest, undone, finish, finishUndo};
 ghost use Rattle.tree.specs.History.{isSome};
 use crate::Answer;
 use crate::formed::standing;

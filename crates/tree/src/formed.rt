@@ -1,6 +1,6 @@
 // The test that a room is a well-formed tree.
 ghost use mathlib.Core.Path.{_≡_};
-ghost use Prim.Native.Nat.{_≤_, _<_};
+ghost use Prim.Native.Nat.{_<_};
 ghost use Rattle.inherit.specs.Compute.{ruleOk};
 ghost use Rattle.tree.specs.Room.{own as Room·own, step as Room·step};
 ghost use Rattle.tree.specs.Formed.{headOk, settingsOk, placed as Formed·placed, objectOk, every, againOk, stepOk, standing as Formed·standing, stepsOk, formed as Formed·formed};

@@ -1,8 +1,6 @@
 -- What `inherit::compute` answers, in its places. Assumes nothing.
 use borrow.Author.Needs.{needs}
 use mathlib.Core.Path.{_≡_, sym, ap, ap₂, _∙_}
-use mathlib.Core.List.{List}
-use Prim.Native.Nat.{ℕ}
 use denote.Ref.{now}
 use lib.ListN.{length}
 use Rattle.inherit.specs.declared.Settings.{Settings}

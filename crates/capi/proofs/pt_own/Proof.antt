@@ -1,6 +1,6 @@
 -- The tree's call, its answer in the eight places. Assumes nothing.
 use borrow.Author.Needs.{needs}
-use mathlib.Core.Path.{_≡_, ap, _∙_}
+use mathlib.Core.Path.{ap, _∙_}
 use Rattle.tree.specs.declared.Answer.{Answer}
 use Rattle.tree.specs.Calls.{valuesOf}
 use Rattle.capi.specs.Places.{placesOf}

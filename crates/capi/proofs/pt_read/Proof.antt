@@ -1,6 +1,6 @@
 -- What `list::read` answers, in its places. Assumes nothing.
 use borrow.Author.Needs.{needs}
-use mathlib.Core.Path.{_≡_, sym, ap, _∙_}
+use mathlib.Core.Path.{sym, ap, _∙_}
 use Rattle.list.specs.Answer.{valuesOf}
 use Rattle.capi.specs.Places.{placesOf}
 use Rattle.capi.proofs.pt_read.Statement.{statement}

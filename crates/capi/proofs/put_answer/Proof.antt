@@ -1,6 +1,6 @@
 -- By the two cases of an answer. Assumes nothing.
 use borrow.Author.Needs.{needs}
-use mathlib.Core.Path.{_≡_, sym, ap, _∙_}
+use mathlib.Core.Path.{sym, ap, _∙_}
 use Prim.Native.Nat.{ℕ}
 use Rattle.list.specs.Answer.{done}
 use Rattle.tree.specs.declared.Answer.{Answer}

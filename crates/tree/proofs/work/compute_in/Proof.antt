@@ -1,6 +1,6 @@
 -- The call of the computation, with each argument where it lies. Assumes nothing.
 use borrow.Author.Needs.{needs}
-use mathlib.Core.Path.{_≡_, ap, _∙_}
+use mathlib.Core.Path.{ap, _∙_}
 use denote.Ref.{now}
 use Rattle.tree.specs.Held.{bytesIn, idIn}
 use Rattle.tree.proofs.Works.{compute-found}
