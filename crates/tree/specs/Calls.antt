@@ -4,7 +4,7 @@ use mathlib.Core.List.{List, [], _∷_, _++_}
 use mathlib.Core.Bool.{Bool, true, false, cond, _&&_}
 use mathlib.Core.Option.{Option, none, some}
 use lib.ListN.{length, set}
-use lib.Dec.{eqb, leb, ltb}
+use lib.Dec.{leb, ltb}
 use Rattle.list.specs.Bytes.{part, putAt, front}
 use Rattle.list.specs.Entry.{access}
 use Rattle.list.specs.List.{checkOf, countOf}
@@ -18,8 +18,8 @@ use Rattle.tree.specs.declared.Answer.{Answer}
 use Rattle.tree.specs.declared.tests.Fault.{Fault}
 use Rattle.tree.specs.declared.Answer.the-variants.{Done, Refused}
 use Rattle.tree.specs.Held.{New, held, slotFor, idFor, blockFor, yes, ownerOf, groupOf, ownList}
-use Rattle.tree.specs.Room.{limit, depth, objects, kept, ownAt, stepsAt, roomFor, limitsOk, own, slot, step, tagOf, numberOf, savedIn, area, emptyRoom}
-use Rattle.tree.specs.Formed.{placed, formed}
+use Rattle.tree.specs.Room.{limit, depth, objects, kept, ownAt, stepsAt, roomFor, limitsOk, own, slot, step, numberOf, savedIn, area, emptyRoom}
+use Rattle.tree.specs.Formed.{placed, standing, formed}
 use Rattle.tree.specs.Work.{reworked}
 
 -- document 01's number and values for each case
@@ -90,7 +90,7 @@ abbrev pub latest : List ℕ → List ℕ
 latest w = step (limit w) 0 w
 
 abbrev pub left : List ℕ → ℕ
-left w = cond (eqb (tagOf (latest w)) 1) (objects w - 1) (objects w)
+left w = standing (objects w) (latest w)
 
 unfoldable pub undone : List ℕ → Option (List ℕ)
 undone w = settled (ownAt (numberOf (latest w))) (savedIn (latest w)) (left w) (popped w)
