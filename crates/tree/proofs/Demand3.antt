@@ -18,10 +18,10 @@ use Rattle.inherit.specs.declared.Mapping.{Mapping}
 use Rattle.inherit.specs.Given.{Optional, absent}
 use Rattle.inherit.specs.Compute.{ruleOk}
 use Rattle.tree.specs.declared.Answer.the-variants.{Done, Refused}
-use Rattle.tree.specs.Held.{held}
+use Rattle.tree.specs.Held.{held, ownList}
 use Rattle.tree.specs.Room.{limit, depth, objects, kept, roomFor, limitsOk, settings, settingsFor, own, slot, area, emptyRoom}
 use Rattle.tree.specs.Formed.{stepsOk, formed}
-use Rattle.tree.specs.Calls.{need, short, onObject, told, bytesIf, copied, startOk, finishUndo, undone, undoTo, listTo}
+use Rattle.tree.specs.Calls.{need, short, onObject, told, bytesIf, dataOf, copied, startOk, finishUndo, undone, undoTo, listTo, ownTo, dataTo}
 use Rattle.tree.specs.History.{State, Call, edit, undo, Rules, settled, edited, undone as machine-undone, after, start, run, replay, afresh, remains, accepts, isSome, orElse, positive}
 use Rattle.tree.specs.Replay.{Change, Tree, reads, when, work, rules, tab, shown}
 use Rattle.tree.specs.Played.{callTo, accepted, played, Proper, Propers}
@@ -211,11 +211,19 @@ shown-kept : (r : List ℕ) → length (shown r .kept) ≡ kept r
 unfolding shown
 shown-kept r = length-tab (kept r) _
 
--- a computed list read back is the one that the room shows
-read-shown : (r out : List ℕ) (i : ℕ) → formed r ≡ true → i < objects r
-    → listTo i r out ≡ copied (told (getD (shown r .lists) i absent)) (bytesIf (getD (shown r .lists) i absent)) out
-unfolding listTo onObject need shown
-read-shown r out i h k = rw (h, lt-ltb i (objects r) k, getD-tab (objects r) (λ j. held (slot j r)) i absent k) refl
+-- what is read back is what the room shows: a computed list, an own list, own data
+pub record ReadBack (r out : List ℕ) (i : ℕ) : Type 0 where
+  pub computed-list : listTo i r out ≡ copied (told (getD (shown r .lists) i absent)) (bytesIf (getD (shown r .lists) i absent)) out
+  pub own-list : ownTo i r out ≡ copied (told (ownList (getD (shown r .own) i []))) (bytesIf (ownList (getD (shown r .own) i []))) out
+  pub own-data : dataTo i r out ≡ copied (Done (length (dataOf (getD (shown r .own) i []))) true 0) (dataOf (getD (shown r .own) i [])) out
+
+read-shown : (r out : List ℕ) (i : ℕ) → formed r ≡ true → i < objects r → ReadBack r out i
+unfolding listTo ownTo dataTo onObject need shown
+read-shown r out i h k =
+    let l = getD-tab (objects r) (λ j. held (slot j r)) i absent k in
+    let o = getD-tab (objects r) (λ j. own j r) i [] k in
+    let t = lt-ltb i (objects r) k in
+    record { computed-list = rw (h, t, l) refl; own-list = rw (h, t, o) refl; own-data = rw (h, t, o) refl }
 
 -- what holds after the calls qs, the latest first, on the room r
 pub record Reached (n s : ℕ) (e r : List ℕ) (qs : List (Call Change)) : Type 0 where
@@ -227,8 +235,7 @@ pub record Reached (n s : ℕ) (e r : List ℕ) (qs : List (Call Change)) : Type
   pub refused-stays : (q : Call Change) → Proper q → accepted (callTo q (played qs r) .answer) ≡ false → callTo q (played qs r) .bytes ≡ played qs r
   pub undo-refused : remains (rules n e) s qs .left ≡ 0 → undoTo (played qs r) .answer ≡ Refused 11 0 0
   pub undo-done : 0 < remains (rules n e) s qs .left → undoTo (played qs r) .answer ≡ Done 0 false 0
-  pub read-back : (i : ℕ) (out : List ℕ) → i < objects (played qs r)
-      → listTo i (played qs r) out ≡ copied (told (getD (shown (played qs r) .lists) i absent)) (bytesIf (getD (shown (played qs r) .lists) i absent)) out
+  pub read-back : (i : ℕ) (out : List ℕ) → i < objects (played qs r) → ReadBack (played qs r) out i
 
 module _ (n s rule : ℕ) (m : Mapping) (default : Optional) (r : List ℕ) where
   pub demand3 : startOk n s rule (length r) ≡ true → reads default ≡ true → short default ≡ true → (qs : List (Call Change)) → Propers qs
