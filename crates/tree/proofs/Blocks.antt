@@ -1,13 +1,13 @@
 -- What own data of an object shows, and when it is good: that of a new object shows what the object was given.
 use mathlib.Core.Path.{_≡_, refl, ap, _∙_}
-use mathlib.Core.Bool.{Bool, true, false}
+use mathlib.Core.Bool.{Bool, true, false, cond}
 use mathlib.Core.List.{List, [], _∷_, _++_}
 use Prim.Native.Nat.{ℕ, _+_, _≤_, min}
 use native.Mathlib.Omega.{arith}
-use lib.ListN.{length, take, length-append}
-use lib.Seq.{take-at, take-all, drop-append-add}
+use lib.ListN.{length, take, drop, replicate, length-append, length-replicate, length-drop}
+use lib.Seq.{take-at, take-all, drop-append-add, length-take-le}
 use lib.Dec.{leb}
-use borrow.Author.Tests.{le-leb}
+use borrow.Author.Tests.{leb-true, le-leb}
 use Rattle.list.specs.Bytes.{part, guidAt}
 use Rattle.list.proofs.Tests.{both-true}
 use Rattle.inherit.specs.Given.{Optional}
@@ -101,10 +101,19 @@ yes-bit false = refl
 
 -- ---- a new object
 
-module _ (new : New) (t : length (new .type) ≡ 16) (o : ordinary (new .owner) ≡ true) (g : ordinary (new .group) ≡ true) (s : short (new .list) ≡ true) where
-  new-laid : Laid (blockFor new) (min 255 (new .parent)) (yes (new .container)) (yes (new .mark)) (new .type) (idFor (new .owner)) (idFor (new .group)) (slotFor (new .list))
+pub length-guid : (s : List ℕ) (at : ℕ) → length (guidAt s at) ≡ 16
+unfolding guidAt
+length-guid s at = by (leb (at + 16) (length s)) refl
+  where
+    by : (b : Bool) → leb (at + 16) (length s) ≡ b → length (cond b (take 16 (drop at s)) (replicate 16 0)) ≡ 16
+    by true e = length-take-le 16 (drop at s) (rw length-drop (omega (arith, leb-true (at + 16) (length s) e)))
+    by false e = length-replicate {A = ℕ} 16 0
+
+module _ (new : New) (o : ordinary (new .owner) ≡ true) (g : ordinary (new .group) ≡ true) (s : short (new .list) ≡ true) where
+  new-laid : Laid (blockFor new) (min 255 (new .parent)) (yes (new .container)) (yes (new .mark)) (guidAt (new .type) 0) (idFor (new .owner)) (idFor (new .group)) (slotFor (new .list))
   unfolding blockFor
   new-laid =
+      let t = length-guid (new .type) 0 in
       let lo = id-length (new .owner) o in
       let lg = id-length (new .group) g in
       let ls = length-slot (new .list) s in
@@ -112,29 +121,29 @@ module _ (new : New) (t : length (new .type) ≡ 16) (o : ordinary (new .owner) 
       let c = slotFor (new .list) in
       let d = idFor (new .group) ++ c in
       let e = idFor (new .owner) ++ d in
-      let f = new .type ++ e in
+      let f = guidAt (new .type) 0 ++ e in
       let l : length (h ++ f) ≡ 1184 = simp length-append (omega arith) in
       record {
         long = l;
         parent = refl;
         kind = refl;
         mark = refl;
-        type = type-part (h ++ f) (omega arith) ∙ part-past 3 0 16 h f refl ∙ part-first 16 (new .type) e t;
-        owner = part-past 3 16 69 h f refl ∙ part-past 16 0 69 (new .type) e t ∙ part-first 69 (idFor (new .owner)) d lo;
+        type = type-part (h ++ f) (omega arith) ∙ part-past 3 0 16 h f refl ∙ part-first 16 (guidAt (new .type) 0) e t;
+        owner = part-past 3 16 69 h f refl ∙ part-past 16 0 69 (guidAt (new .type) 0) e t ∙ part-first 69 (idFor (new .owner)) d lo;
         group =
             part-past 3 85 69 h f refl
-            ∙ part-past 16 69 69 (new .type) e t
+            ∙ part-past 16 69 69 (guidAt (new .type) 0) e t
             ∙ part-past 69 0 69 (idFor (new .owner)) d lo
             ∙ part-first 69 (idFor (new .group)) c lg;
         slot =
             part-past 3 154 1027 h f refl
-            ∙ part-past 16 138 1027 (new .type) e t
+            ∙ part-past 16 138 1027 (guidAt (new .type) 0) e t
             ∙ part-past 69 69 1027 (idFor (new .owner)) d lo
             ∙ part-past 69 0 1027 (idFor (new .group)) c lg
             ∙ part-all 1027 c ls;
       }
 
-  pub new-shows : Shows (blockFor new) (min 255 (new .parent)) (yes (new .container)) (yes (new .mark)) (new .type) (new .owner) (new .group) (new .list)
+  pub new-shows : Shows (blockFor new) (min 255 (new .parent)) (yes (new .container)) (yes (new .mark)) (guidAt (new .type) 0) (new .owner) (new .group) (new .list)
   new-shows = laid-shows new-laid (id-held (new .owner) o) (id-held (new .group) g) (held-slot (new .list) s)
 
   pub new-good : reads (new .list) ≡ true → blockOk (blockFor new) ≡ true

@@ -3,13 +3,11 @@ use mathlib.Core.Path.{_≡_, refl, sym, ap, _∙_}
 use mathlib.Core.Bool.{Bool, true, false, cond}
 use mathlib.Core.List.{List}
 use mathlib.Core.Option.{none, some}
-use Prim.Native.Nat.{ℕ, _+_, _<_}
+use Prim.Native.Nat.{ℕ, _<_}
 use native.Mathlib.Omega.{arith}
-use lib.ListN.{length, drop, take, replicate, length-replicate, length-drop}
-use lib.Seq.{length-take-le}
-use lib.Dec.{leb}
-use borrow.Author.Tests.{leb-true, le-leb}
-use Rattle.list.specs.Bytes.{part, guidAt}
+use lib.ListN.{length}
+use borrow.Author.Tests.{le-leb}
+use Rattle.list.specs.Bytes.{part}
 use Rattle.list.specs.Entry.{access}
 use Rattle.list.specs.List.{checkOf}
 use Rattle.list.specs.declared.lists.Reading.{Reading}
@@ -33,7 +31,7 @@ use Rattle.tree.specs.Calls.{short, bytesIf}
 use Rattle.tree.specs.Replay.{reads}
 use Rattle.tree.proofs.Lays.{length-slot}
 use Rattle.tree.proofs.Slots.{held-slot, slot-good, slot-reads, id-ordinary}
-use Rattle.tree.proofs.Blocks.{block-sound}
+use Rattle.tree.proofs.Blocks.{length-guid, block-sound}
 
 -- ---- a list that was computed
 
@@ -98,14 +96,6 @@ reads-source (present s) h = by (checkOf access s) refl h
     by : (r : Reading) → checkOf access s ≡ r → isDone r ≡ true → sourceOf (present s) .number ≡ 0
     by (Done l n) e d = listed-source s n (told access s l n e .listed)
     by (Unread k at) e d = let z : _≡_ {A = ℕ} 0 1 = cc in absurd (omega arith)
-
-pub length-guid : (s : List ℕ) (at : ℕ) → length (guidAt s at) ≡ 16
-unfolding guidAt
-length-guid s at = by (leb (at + 16) (length s)) refl
-  where
-    by : (b : Bool) → leb (at + 16) (length s) ≡ b → length (cond b (take 16 (drop at s)) (replicate 16 0)) ≡ 16
-    by true e = length-take-le 16 (drop at s) (rw length-drop (omega (arith, leb-true (at + 16) (length s) e)))
-    by false e = length-replicate {A = ℕ} 16 0
 
 pub types-good : (b : List ℕ) → typesOk (typeOf b) ≡ true
 unfolding typesOk

@@ -2,7 +2,7 @@
 -- of the accepted changes not since undone gives; every computed list is the one worked out afresh from the root (Replay's fromRoot, up the parents); as many steps are kept as
 -- document 01 says; the next call is accepted exactly where the past says so, and where it is refused no byte changes; undo answers 11 exactly where no kept step is left, else it is done.
 -- Besides, for any well-formed room, reached by calls or not: a call leaves it well formed, and an accepted one leaves every list fresh.
-use mathlib.Core.Path.{_≡_, refl, sym, ap, _∙_}
+use mathlib.Core.Path.{_≡_, refl, sym, ap, _∙_, subst}
 use mathlib.Core.Bool.{Bool, true, false, _&&_}
 use mathlib.Core.List.{List, [], _∷_, _++_, append-assoc}
 use mathlib.Core.Option.{Option, none, some}
@@ -13,7 +13,7 @@ use lib.Seq.{take-at}
 use lib.Dec.{leb}
 use borrow.Author.Tests.{leb-true, lt-ltb}
 use Rattle.list.specs.Bytes.{front, part}
-use Rattle.list.proofs.Tests.{both-true}
+use Rattle.list.proofs.Tests.{both-true, off}
 use Rattle.inherit.specs.declared.Mapping.{Mapping}
 use Rattle.inherit.specs.Given.{Optional, absent}
 use Rattle.inherit.specs.Compute.{ruleOk}
@@ -21,17 +21,17 @@ use Rattle.tree.specs.declared.Answer.the-variants.{Done, Refused}
 use Rattle.tree.specs.Held.{held, ownList}
 use Rattle.tree.specs.Room.{limit, depth, objects, kept, roomFor, limitsOk, settings, settingsFor, own, slot, area, emptyRoom}
 use Rattle.tree.specs.Formed.{stepsOk, formed}
-use Rattle.tree.specs.Calls.{need, short, onObject, told, bytesIf, dataOf, copied, startOk, finishUndo, undone, undoTo, listTo, ownTo, dataTo}
+use Rattle.tree.specs.Calls.{Outcome, need, short, onObject, told, bytesIf, dataOf, copied, startOk, finishUndo, undone, startTo, undoTo, listTo, ownTo, dataTo}
 use Rattle.tree.specs.History.{State, Call, edit, undo, Rules, settled, edited, undone as machine-undone, after, start, run, replay, afresh, remains, accepts, isSome, orElse, positive}
 use Rattle.tree.specs.Replay.{Change, Tree, reads, when, work, rules, tab, shown}
-use Rattle.tree.specs.Played.{callTo, accepted, played, Proper, Propers}
+use Rattle.tree.specs.Played.{callTo, accepted, played}
 use Rattle.tree.proofs.Tab.{length-tab, getD-tab}
 use Rattle.tree.proofs.Lays.{length-settings}
 use Rattle.tree.proofs.Settings.{settings-good}
 use Rattle.tree.proofs.Histories.{history}
 use Rattle.tree.proofs.Lawful.{lawful}
 use Rattle.tree.proofs.Keeps.{facts-formed}
-use Rattle.tree.proofs.Plays.{call-ends}
+use Rattle.tree.proofs.Plays.{Passes, on, stop, then, need-first, reads-first, call-ends}
 
 -- ---- any well-formed room
 
@@ -62,10 +62,10 @@ pub record Keeps (r : List ℕ) (q : Call Change) : Type 0 where
   pub refused-stays : accepted (callTo q r .answer) ≡ false → callTo q r .bytes ≡ r
   pub lists-fresh : accepted (callTo q r .answer) ≡ true → work (settings r) (shown (callTo q r .bytes) .own) ≡ some (shown (callTo q r .bytes) .lists)
 
-pub keeps : (r : List ℕ) → formed r ≡ true → (q : Call Change) → Proper q → Keeps r q
+pub keeps : (r : List ℕ) → formed r ≡ true → (q : Call Change) → Keeps r q
 unfolding rules
-keeps r h q p =
-    let E = call-ends r h q p in
+keeps r h q =
+    let E = call-ends r h q in
     record {
       well = facts-formed (callTo q r .bytes) (E .well);
       refused-stays = E .stays;
@@ -164,10 +164,10 @@ module _ (n s : ℕ) (e : List ℕ) where
   call-by r r′ t m true e h stays = rw h (refl, refl)
   call-by r r′ t m false e h stays = rw h (rw (stays refl) e, refl)
 
-  call-good : (r : List ℕ) (t : Tree) (q : Call Change) → Proper q → Good r t
+  call-good : (r : List ℕ) (t : Tree) (q : Call Change) → Good r t
       → Good (callTo q r .bytes) (orElse t (after (rules n e) s t q)) × (accepted (callTo q r .answer) ≡ isSome (after (rules n e) s t q))
-  call-good r t q p g =
-      let X = call-ends r (g .well) q p in
+  call-good r t q g =
+      let X = call-ends r (g .well) q in
       let a : after (rules n e) s t q ≡ when (accepted (callTo q r .answer)) (shown (callTo q r .bytes)) =
       rw (← g .shows, ← g .limits-are, ← g .depth-is, ← g .settings-are) (X .told) in
       let c = call-by r (callTo q r .bytes) t (after (rules n e) s t q) (accepted (callTo q r .answer)) (g .shows) a (X .stays) in (
@@ -181,10 +181,10 @@ module _ (n s : ℕ) (e : List ℕ) where
         c .1,
       )
 
-  all-good : (r : List ℕ) → Good r (start (rules n e) s) → (qs : List (Call Change)) → Propers qs → Good (played qs r) (run (rules n e) s qs)
+  all-good : (r : List ℕ) → Good r (start (rules n e) s) → (qs : List (Call Change)) → Good (played qs r) (run (rules n e) s qs)
   unfolding played run
-  all-good r g [] p = g
-  all-good r g (q ∷ qs) p = call-good (played qs r) (run (rules n e) s qs) q (p .0) (all-good r g qs (p .1)) .0
+  all-good r g [] = g
+  all-good r g (q ∷ qs) = call-good (played qs r) (run (rules n e) s qs) q (all-good r g qs) .0
 
 past-undo : (n s : ℕ) (e : List ℕ) (qs : List (Call Change)) → 0 < remains (rules n e) s qs .left → accepts (rules n e) s (remains (rules n e) s qs) undo ≡ true
 unfolding accepts positive
@@ -231,17 +231,17 @@ pub record Reached (n s : ℕ) (e r : List ℕ) (qs : List (Call Change)) : Type
   pub data-replayed : replay (rules n e) s (remains (rules n e) s qs .done) ≡ some (shown (played qs r) .own)
   pub lists-afresh : afresh (rules n e) s (remains (rules n e) s qs .done) ≡ some (shown (played qs r) .lists)
   pub steps-left : kept (played qs r) ≡ remains (rules n e) s qs .left
-  pub answered : (q : Call Change) → Proper q → accepted (callTo q (played qs r) .answer) ≡ accepts (rules n e) s (remains (rules n e) s qs) q
-  pub refused-stays : (q : Call Change) → Proper q → accepted (callTo q (played qs r) .answer) ≡ false → callTo q (played qs r) .bytes ≡ played qs r
+  pub answered : (q : Call Change) → accepted (callTo q (played qs r) .answer) ≡ accepts (rules n e) s (remains (rules n e) s qs) q
+  pub refused-stays : (q : Call Change) → accepted (callTo q (played qs r) .answer) ≡ false → callTo q (played qs r) .bytes ≡ played qs r
   pub undo-refused : remains (rules n e) s qs .left ≡ 0 → undoTo (played qs r) .answer ≡ Refused 11 0 0
   pub undo-done : 0 < remains (rules n e) s qs .left → undoTo (played qs r) .answer ≡ Done 0 false 0
   pub read-back : (i : ℕ) (out : List ℕ) → i < objects (played qs r) → ReadBack (played qs r) out i
 
 module _ (n s rule : ℕ) (m : Mapping) (default : Optional) (r : List ℕ) where
-  pub demand3 : startOk n s rule (length r) ≡ true → reads default ≡ true → short default ≡ true → (qs : List (Call Change)) → Propers qs
+  reached : startOk n s rule (length r) ≡ true → reads default ≡ true → short default ≡ true → (qs : List (Call Change))
       → Reached n s (settingsFor rule m default) (front (emptyRoom n s rule m default) r) qs
   unfolding first callTo
-  demand3 ok good few qs p =
+  reached ok good few qs =
       let g₀ : Good n s (settingsFor rule m default) (front (emptyRoom n s rule m default) r) (start (rules n (settingsFor rule m default)) s) = record {
         well = first-formed n s rule m default r ok good few;
         limits-are = first-limit n s rule m default r ok good few;
@@ -249,20 +249,38 @@ module _ (n s rule : ℕ) (m : Mapping) (default : Optional) (r : List ℕ) wher
         settings-are = first-settings n s rule m default r ok good few;
         shows = first-shown n s rule m default r ok good few;
       } in
-      let g = all-good n s (settingsFor rule m default) (front (emptyRoom n s rule m default) r) g₀ qs p in
+      let g = all-good n s (settingsFor rule m default) (front (emptyRoom n s rule m default) r) g₀ qs in
       let H = history (rules n (settingsFor rule m default)) (lawful n (settingsFor rule m default)) s qs in
       let left : kept (played qs (front (emptyRoom n s rule m default) r)) ≡ remains (rules n (settingsFor rule m default)) s qs .left =
       sym (shown-kept (played qs (front (emptyRoom n s rule m default) r))) ∙ ap (λ (t : Tree). length (t .kept)) (g .shows) ∙ H .steps-left in
-      let told : (q : Call Change) → Proper q → accepted (callTo q (played qs (front (emptyRoom n s rule m default) r)) .answer) ≡ accepts (rules n (settingsFor rule m default)) s (remains (rules n (settingsFor rule m default)) s qs) q =
-      λ q pq. call-good n s (settingsFor rule m default) _ _ q pq g .1 ∙ H .told q in
+      let told : (q : Call Change) → accepted (callTo q (played qs (front (emptyRoom n s rule m default) r)) .answer) ≡ accepts (rules n (settingsFor rule m default)) s (remains (rules n (settingsFor rule m default)) s qs) q =
+      λ q. call-good n s (settingsFor rule m default) _ _ q g .1 ∙ H .told q in
       record {
         well = g .well;
         data-replayed = rw (g .shows) (H .data-replayed);
         lists-afresh = rw (g .shows) (H .lists-afresh);
         steps-left = left;
         answered = told;
-        refused-stays = λ q pq. call-ends _ (g .well) q pq .stays;
+        refused-stays = λ q. call-ends _ (g .well) q .stays;
         undo-refused = λ z. undo-11 _ (g .well) (left ∙ z);
-        undo-done = λ z. undo-0 _ (g .well) (omega (arith, left)) (told undo tt ∙ past-undo n s (settingsFor rule m default) qs z);
+        undo-done = λ z. undo-0 _ (g .well) (omega (arith, left)) (told undo ∙ past-undo n s (settingsFor rule m default) qs z);
         read-back = λ i out k. read-shown _ out i (g .well) k;
       }
+
+  -- a start that is accepted has passed its tests
+  started : (o go : Outcome) (b : Bool) → Passes r o go b → accepted (o .answer) ≡ true → (b ≡ true) × (o ≡ go)
+  started o go true (on e) h = (refl, e)
+  started o go false (stop x) h = absurd (off h (ap (λ (y : Outcome). accepted (y .answer)) (x .is)))
+
+  -- the theorem: whatever tree a start gives, and whatever calls follow
+  pub demand3 : accepted (startTo n s rule m default r .answer) ≡ true → (qs : List (Call Change))
+      → Reached n s (settingsFor rule m default) (startTo n s rule m default r .bytes) qs
+  unfolding startTo
+  demand3 h qs =
+      let go : Outcome = record { answer = Done 0 false 0; bytes = front (emptyRoom n s rule m default) r } in
+      let p = started (startTo n s rule m default r) go (startOk n s rule (length r) && (reads default && short default))
+      (then r _ _ go (startOk n s rule (length r)) _ (need-first (startOk n s rule (length r)) 12 r _)
+      (then r _ _ go (reads default) (short default) (reads-first default 3 r _) (need-first (short default) 8 r go))) h in
+      let a = both-true (startOk n s rule (length r)) (reads default && short default) (p .0) in
+      let b = both-true (reads default) (short default) (a .1) in
+      subst (λ (o : Outcome). Reached n s (settingsFor rule m default) (o .bytes) qs) (sym (p .1)) (reached (a .0) (b .0) (b .1) qs)

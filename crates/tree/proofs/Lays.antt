@@ -5,9 +5,10 @@ use mathlib.Core.Bool.{true}
 use Prim.Native.Nat.{ℕ, _+_, _-_, _/_, _%_, _≤_, _<_, min}
 use native.Mathlib.Nat.{mod-eq-of-lt, div-lt-iff-lt-mul}
 use native.Mathlib.Omega.{arith}
-use borrow.Author.Tests.{leb-true}
+use borrow.Author.Tests.{leb-true, le-leb}
 use lib.ListN.{length, set, replicate, length-append, length-replicate, replicate-append-replicate}
-use Rattle.list.specs.Bytes.{putAt, spell}
+use lib.Seq.{take-all}
+use Rattle.list.specs.Bytes.{putAt, spell, guidAt}
 use Rattle.list.proofs.Little.{length-spell}
 use Rattle.list.proofs.Places.{put-one, put-snoc, put-append, put-whole, length-put}
 use Rattle.inherit.specs.declared.Mapping.{Mapping}
@@ -109,6 +110,11 @@ regroup : (h t o g s : List ℕ) → ((h ++ t) ++ (o ++ g)) ++ s ≡ h ++ (t ++ 
 regroup h t o g s = simp append-assoc
 
 -- own data of a new object, in a buffer of its size
+-- sixteen bytes are a GUID
+guid-whole : (g : List ℕ) → length g ≡ 16 → guidAt g 0 ≡ g
+unfolding guidAt
+guid-whole g h = rw (le-leb 16 (length g) (omega arith)) (take-all 16 g (omega arith))
+
 module _ (new : New) (t : length (new .type) ≡ 16) (o : length (new .owner) ≤ 68) (g : length (new .group) ≤ 68) (s : short (new .list) ≡ true) where
   pub block-laid : (x y z : ℕ) (l m₁ m₂ m₃ : List ℕ) → length l ≡ 1184 → x ≡ min 255 (new .parent) → y ≡ yes (new .container) → z ≡ yes (new .mark)
       → m₁ ≡ putAt 3 (new .type) (set (set (set l 0 x) 1 y) 2 z)
@@ -124,7 +130,7 @@ module _ (new : New) (t : length (new .type) ≡ 16) (o : length (new .owner) �
       w₃ .is
       ∙ put-whole _ l (w₃ .long ∙ sym h)
       ∙ regroup (x ∷ y ∷ z ∷ []) (new .type) (idFor (new .owner)) (idFor (new .group)) (slotFor (new .list))
-      ∙ rw (ex, ey, ez)
+      ∙ rw (ex, ey, ez, guid-whole (new .type) t)
 
 -- the settings
 module _ (rule : ℕ) (m : Mapping) (o : Optional) (s : short o ≡ true) where

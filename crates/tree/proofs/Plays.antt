@@ -26,7 +26,7 @@ use Rattle.tree.specs.Formed.{Head, placed, stepsOk, formed}
 use Rattle.tree.specs.Calls.{Edit, list, mark, owners, Outcome, refuse, need, onReading, readable, short, onObject, tested, told as told-in, editAt, editBytes, changed, latest, left, undone, finish, finishUndo, nobody, addTo, alterTo, undoTo}
 use Rattle.tree.specs.History.{Call, edit, undo, settled, after}
 use Rattle.tree.specs.Replay.{Change, add, alter, Undo, off, again, Tree, reads, fine, when, work, rules, tab, undoIn, shown}
-use Rattle.tree.specs.Played.{callTo, accepted, Proper}
+use Rattle.tree.specs.Played.{callTo, accepted}
 use Rattle.tree.proofs.Applied.{upd, upd-other, ahead, Adds, Again}
 use Rattle.tree.proofs.Turns.{Owned, owned-off, owned-put, owned-add, put-steps, add-steps, latest as latest-of, back-steps, off-steps}
 use Rattle.tree.proofs.Tab.{tab-push, tab-first}
@@ -92,7 +92,7 @@ need-by false k r rest true h = let z : _≡_ {A = ℕ} 0 1 = cc in absurd (omeg
 need-by false k r rest false h = record { number = k; list = 0; offset = 0; is = refl }
 
 -- one test after another
-data Passes (r : List ℕ) (o rest : Outcome) : Bool → Type 0 where
+pub data Passes (r : List ℕ) (o rest : Outcome) : Bool → Type 0 where
   on : o ≡ rest → Passes r o rest true
   stop : Refuses r o → Passes r o rest false
 
@@ -100,14 +100,14 @@ as-passes : (r : List ℕ) (o rest : Outcome) (b : Bool) → cond b (o ≡ rest)
 as-passes r o rest true h = on h
 as-passes r o rest false h = stop h
 
-then : (r : List ℕ) (o p rest : Outcome) (a b : Bool) → Passes r o p a → Passes r p rest b → Passes r o rest (a && b)
+pub then : (r : List ℕ) (o p rest : Outcome) (a b : Bool) → Passes r o p a → Passes r p rest b → Passes r o rest (a && b)
 then r o p rest true b (on e) q = subst (λ (x : Outcome). Passes r x rest b) (sym e) q
 then r o p rest false b (stop x) q = stop x
 
-reads-first : (o : Optional) (which : ℕ) (r : List ℕ) (rest : Outcome) → Passes r (readable o which r rest) rest (reads o)
+pub reads-first : (o : Optional) (which : ℕ) (r : List ℕ) (rest : Outcome) → Passes r (readable o which r rest) rest (reads o)
 reads-first o which r rest = as-passes r (readable o which r rest) rest (reads o) (read-by o which r rest (reads o) refl)
 
-need-first : (t : Bool) (k : ℕ) (r : List ℕ) (rest : Outcome) → Passes r (need t k r rest) rest t
+pub need-first : (t : Bool) (k : ℕ) (r : List ℕ) (rest : Outcome) → Passes r (need t k r rest) rest t
 need-first t k r rest = as-passes r (need t k r rest) rest t (need-by t k r rest t refl)
 
 -- what an alteration is given
@@ -329,10 +329,10 @@ module _ (r : List ℕ) (F : Formed r) where
       (λ b. next-as (edit (alter i e)) ∙ alter-none (limit r) (depth r) (settings r) (objects r) f₀ _ _ i e (rw F₁ at b))
 
   -- an add whose tests were passed
-  add-goes : (new : New) → length (new .type) ≡ 16 → Asked (limit r) new (objects r) f₀ ≡ true
+  add-goes : (new : New) → Asked (limit r) new (objects r) f₀ ≡ true
       → Ends r (finish (objects r) r (changed 1 (objects r) 0 (blockFor new) (objects r + 1) (area r))) (Next (edit (add new)))
   unfolding f₀ g₀
-  add-goes new ty ask =
+  add-goes new ask =
       let t₁ = both-true (placed nobody f₀ (objects r) (new .parent)) _ ask in
       let t₂ = both-true (ltb (objects r) (limit r)) _ (t₁ .1) in
       let t₃ = both-true (reads (new .list)) _ (t₂ .1) in
@@ -341,12 +341,12 @@ module _ (r : List ℕ) (F : Formed r) where
       let nl : objects r < limit r = ltb-true (objects r) (limit r) (t₂ .0) in
       let nl₁ : objects r < limit (area r) = omega (arith, a-limit) in
       let nl₂ : objects r + 1 ≤ limit (area r) = omega (arith, a-limit) in
-      let shows = new-shows new ty (t₄ .0) (t₅ .0) (t₅ .1) in
+      let shows = new-shows new (t₄ .0) (t₅ .0) (t₅ .1) in
       let fits : 0 + length (blockFor new) ≤ 1184 = omega (arith, shows .long) in
       let x : List ℕ = putAt 0 (blockFor new) (own (objects r) (area r)) in
       let ex : x ≡ blockFor new = put-whole (blockFor new) (own (objects r) (area r)) (shows .long ∙ sym (own-long (objects r) nl)) in
       let u : List ℕ = 1 ∷ objects r ∷ own (objects r) (area r) in
-      let O = owned-add (objects r) (new .parent) x f₀ O₀ (omega (arith, h .limit-64)) (rw ex (new-good new ty (t₄ .0) (t₅ .0) (t₅ .1) (t₃ .0))) (t₁ .0) (rw ex (shows .parent)) in
+      let O = owned-add (objects r) (new .parent) x f₀ O₀ (omega (arith, h .limit-64)) (rw ex (new-good new (t₄ .0) (t₅ .0) (t₅ .1) (t₃ .0))) (t₁ .0) (rw ex (shows .parent)) in
       let T = add-steps (objects r) (kept r) (min (depth (area r)) (suc (kept (area r)))) x u f₀ g₀ T₀ refl refl few-steps in
       let us : List Undo = take (depth r) (undoIn u ∷ tab (kept r) (λ j. undoIn (g₀ j))) in
       subst (Ends r (finish (objects r) r (changed 1 (objects r) 0 (blockFor new) (objects r + 1) (area r))))
@@ -360,9 +360,9 @@ module _ (r : List ℕ) (F : Formed r) where
       (λ w q. change-became (area r) (area-ready r h) 1 (objects r) 0 (blockFor new) (objects r + 1) nl₁ nl₂ fits w q)
       (λ q. change-refused (area r) (area-ready r h) 1 (objects r) 0 (blockFor new) (objects r + 1) nl₁ nl₂ fits q)))
 
-  add-ends : (new : New) → length (new .type) ≡ 16 → Ends r (addTo new r) (Next (edit (add new)))
+  add-ends : (new : New) → Ends r (addTo new r) (Next (edit (add new)))
   unfolding addTo
-  add-ends new ty =
+  add-ends new =
       let go : Outcome = finish (objects r) r (changed 1 (objects r) 0 (blockFor new) (objects r + 1) (area r)) in
       let F₁ = facts-formed r F in
       let same : placed nobody (λ j. own j r) (objects r) (new .parent) ≡ placed nobody f₀ (objects r) (new .parent) =
@@ -374,7 +374,7 @@ module _ (r : List ℕ) (F : Formed r) where
       (then r _ _ go (reads (new .list)) _ (reads-first (new .list) 2 r _)
       (then r _ _ go (ordinary (new .owner)) _ (need-first (ordinary (new .owner)) 6 r _)
       (then r _ _ go (ordinary (new .group)) (short (new .list)) (need-first (ordinary (new .group)) 6 r _) (need-first (short (new .list)) 8 r go)))))))
-      (λ b. add-goes new ty (rw same at (both-true (formed r) _ b .1)))
+      (λ b. add-goes new (rw same at (both-true (formed r) _ b .1)))
       (λ b. next-as (edit (add new)) ∙ add-none (limit r) (depth r) (settings r) (objects r) f₀ _ _ new (rw (F₁, same) at b))
 
   became-as : (w x : List ℕ) (f g : ℕ → List ℕ) (n n′ i i′ k k′ : ℕ) → n ≡ n′ → i ≡ i′ → k ≡ k′ → Became (area r) w n (upd i x f) k g → Became (area r) w n′ (upd i′ x f) k′ g
@@ -448,8 +448,8 @@ module _ (r : List ℕ) (F : Formed r) where
       let z : kept r ≡ 0 = split (kept r) 0 (λ q. omega arith) (λ q. let y : _≡_ {A = ℕ} 0 1 = cc (lt-ltb 0 (kept r) q) in absurd (omega arith)) in
       next-as undo ∙ undo-none (limit r) (depth r) (settings r) (objects r) f₀ _ _ (rw z refl))
 
-pub call-ends : (r : List ℕ) → formed r ≡ true → (q : Call Change) → Proper q → Ends r (callTo q r) (after (rules (limit r) (settings r)) (depth r) (shown r) q)
+pub call-ends : (r : List ℕ) → formed r ≡ true → (q : Call Change) → Ends r (callTo q r) (after (rules (limit r) (settings r)) (depth r) (shown r) q)
 unfolding callTo Next
-call-ends r e (edit (add new)) p = add-ends r (formed-facts r e) new p
-call-ends r e (edit (alter i ed)) p = alter-ends r (formed-facts r e) i ed
-call-ends r e undo p = undo-ends r (formed-facts r e)
+call-ends r e (edit (add new)) = add-ends r (formed-facts r e) new
+call-ends r e (edit (alter i ed)) = alter-ends r (formed-facts r e) i ed
+call-ends r e undo = undo-ends r (formed-facts r e)

@@ -101,8 +101,8 @@ pub record New : Type 0 where
 abbrev pub yes : Bool → ℕ
 yes b = cond b 1 0
 
--- its own data
+-- its own data; a type is sixteen bytes
 unfoldable pub blockFor : New → List ℕ
 blockFor n =
     (min 255 (n .parent) ∷ yes (n .container) ∷ yes (n .mark) ∷ [])
-    ++ (n .type ++ (idFor (n .owner) ++ (idFor (n .group) ++ slotFor (n .list))))
+    ++ (guidAt (n .type) 0 ++ (idFor (n .owner) ++ (idFor (n .group) ++ slotFor (n .list))))

@@ -1,9 +1,7 @@
 -- The calls that change a tree, one after another, as their promises have them.
 use mathlib.Core.Bool.{Bool, true, false}
 use mathlib.Core.List.{List, [], _∷_}
-use mathlib.Core.Path.{_≡_}
 use Prim.Native.Nat.{ℕ}
-use lib.ListN.{length}
 use Rattle.tree.specs.declared.Answer.{Answer}
 use Rattle.tree.specs.declared.Answer.the-variants.{Done, Refused}
 use Rattle.tree.specs.Calls.{Outcome, addTo, alterTo, undoTo}
@@ -24,13 +22,3 @@ accepted (Refused k which at) = false
 unfoldable pub played : List (Call Change) → List ℕ → List ℕ
 played [] r = r
 played (q ∷ qs) r = callTo q (played qs r) .bytes
-
--- calls whose GUIDs are sixteen bytes, as every program's are
-abbrev pub Proper : Call Change → Type 0
-Proper (edit (add new)) = length (new .type) ≡ 16
-Proper (edit (alter i e)) = Unit
-Proper undo = Unit
-
-abbrev pub Propers : List (Call Change) → Type 0
-Propers [] = Unit
-Propers (q ∷ qs) = Proper q × Propers qs
