@@ -27,6 +27,7 @@ abbrev pub valuesOf : Answer → Values
 valuesOf (Done len is n) = done len (yes is) n 0
 valuesOf (Refused k which at) = refused k which at
 
+-- the answer, and what the lent bytes hold afterwards
 pub record Outcome : Type 0 where
   pub answer : Answer
   pub bytes : List ℕ
@@ -167,6 +168,7 @@ undoTo r = need (formed r) 13 r (need (ltb 0 (kept r)) 11 r (finishUndo r (undon
 
 -- ---- reading back: 13, 9, 8
 
+-- an absent list has no bytes
 unfoldable pub bytesIf : Optional → List ℕ
 bytesIf absent = []
 bytesIf (present s) = s

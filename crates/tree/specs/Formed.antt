@@ -13,6 +13,7 @@ unfoldable pub every : (ℕ → Bool) → ℕ → Bool
 every t zero = true
 every t (suc n) = every t n && t n
 
+-- limits and counts in their ranges, and room enough
 unfoldable pub headOk : List ℕ → Bool
 headOk r =
     leb 1048 (length r)
@@ -33,6 +34,7 @@ pub record Head (r : List ℕ) : Type 0 where
   pub kept-within : kept r ≤ depth r
   pub room-enough : roomFor (limit r) (depth r) ≤ length r
 
+-- rule 1 or 2, and a good default list
 unfoldable pub settingsOk : List ℕ → Bool
 settingsOk e = ruleOk (ruleOf e) && slotOk (defaultSlot e)
 
@@ -40,6 +42,7 @@ settingsOk e = ruleOk (ruleOf e) && slotOk (defaultSlot e)
 unfoldable pub placed : ℕ → (ℕ → List ℕ) → ℕ → ℕ → Bool
 placed nobody f i p = cond (eqb i 0) (eqb p nobody) (ltb p i && eqb (kindOf (f p)) 1)
 
+-- object i: its own data, its place, its computed list
 unfoldable pub objectOk : List ℕ → ℕ → Bool
 objectOk r i = blockOk (own i r) && (placed 255 (λ j. own j r) i (parentOf (own i r)) && slotOk (slot i r))
 
@@ -59,6 +62,7 @@ unfoldable pub stepsOk : (ℕ → List ℕ) → (ℕ → List ℕ) → ℕ → �
 stepsOk f g zero j c = true
 stepsOk f g (suc m) j c = stepOk f c (g j) && stepsOk f g m (j + 1) (standing c (g j))
 
+-- the whole test
 unfoldable pub formed : List ℕ → Bool
 formed r =
     headOk r

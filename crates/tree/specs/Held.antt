@@ -17,6 +17,7 @@ use Rattle.inherit.specs.Compute.{ordinary}
 abbrev pub hasList : List ℕ → Bool
 hasList s = eqb (getD s 0 0) 1
 
+-- as many bytes as the length says, of those there are
 unfoldable pub bytesIn : List ℕ → List ℕ
 bytesIn s = part 0 (le 2 (drop 1 s)) (part 3 1024 s)
 
@@ -34,6 +35,7 @@ abbrev pub isDone : Reading → Bool
 isDone (Done len n) = true
 isDone (Refused k at) = false
 
+-- absent, or a list of at most 1,024 bytes that reads as done
 unfoldable pub slotOk : List ℕ → Bool
 slotOk s = eqb (getD s 0 0) 0 || (eqb (getD s 0 0) 1 && (leb (le 2 (drop 1 s)) 1024 && isDone (checkOf access (bytesIn s))))
 
@@ -98,10 +100,11 @@ pub record New : Type 0 where
   pub group : List ℕ
   pub list : Optional
 
+-- a byte for yes or no
 abbrev pub yes : Bool → ℕ
 yes b = cond b 1 0
 
--- its own data; a type is sixteen bytes
+-- its own data: no parent is 255 there, and a type is sixteen bytes
 unfoldable pub blockFor : New → List ℕ
 blockFor n =
     (min 255 (n .parent) ∷ yes (n .container) ∷ yes (n .mark) ∷ [])

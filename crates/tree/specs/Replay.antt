@@ -18,6 +18,7 @@ use Rattle.tree.specs.Calls.{Edit, list, mark, owners, short, editAt, ed
 use Rattle.tree.specs.Held.{held}
 use Rattle.tree.specs.History.{Rules, State, bind}
 
+-- own data of all objects, by number
 abbrev pub Blocks : Type 0
 Blocks = List (List ℕ)
 
@@ -58,6 +59,7 @@ pub data Undo : Type 0 where
   off : Undo
   again : ℕ → List ℕ → Undo
 
+-- the step that a change keeps, and what undo makes of own data by it
 unfoldable pub keep : Change → Blocks → Undo
 keep (add new) d = off
 keep (alter i e) d = again i (getD d i [])
@@ -88,6 +90,7 @@ rules n e = record { empty = []; bare = []; change = change n; work = work e; ke
 
 -- ---- the tree that a room shows
 
+-- f 0, f 1 and so on below n
 unfoldable pub tab : {A : Type 0} → ℕ → (ℕ → A) → List A
 tab zero f = []
 tab (suc n) f = tab n f ++ (f n ∷ [])
@@ -99,6 +102,7 @@ undoIn u = cond (eqb (tagOf u) 1) off (again (numberOf u) (savedIn u))
 abbrev pub Tree : Type 0
 Tree = State Blocks (List Optional) Undo
 
+-- own data, computed lists and kept steps, read off the bytes
 unfoldable pub shown : List ℕ → Tree
 shown r =
     record {

@@ -36,10 +36,11 @@ stepsAt n = 1048 + n * 2211
 abbrev pub roomFor : ℕ → ℕ → ℕ
 roomFor n s = 1048 + n * 2211 + s * 1186
 
--- what the public call gives: the formula, 0 where a limit is out of range
+-- object limit 1 to 64, step limit 0 to 64
 unfoldable pub limitsOk : ℕ → ℕ → Bool
 limitsOk n s = leb 1 n && (leb n 64 && leb s 64)
 
+-- what the public call gives: the formula, 0 where a limit is out of range
 unfoldable pub roomOf : ℕ → ℕ → ℕ
 roomOf n s = cond (limitsOk n s) (roomFor n s) 0
 
@@ -59,6 +60,7 @@ defaultSlot e = part 17 1027 e
 abbrev pub defaultOf : List ℕ → Optional
 defaultOf e = held (defaultSlot e)
 
+-- the settings of a tree that is started
 unfoldable pub settingsFor : ℕ → Mapping → Optional → List ℕ
 settingsFor rule m default =
     (rule ∷ [])

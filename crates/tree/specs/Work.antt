@@ -16,6 +16,7 @@ use Rattle.tree.specs.Held.{held, slotFor, parentOf, kindOf, markOf, typ
 use Rattle.tree.specs.Room.{slotAt, settings, ruleOf, mappingOf, defaultOf, own, slot}
 use Rattle.tree.specs.History.{bind}
 
+-- a list is present
 abbrev pub given : Optional → Bool
 given absent = false
 given (present s) = true
