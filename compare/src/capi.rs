@@ -1,5 +1,6 @@
 //! The calls of the C library, wrapped so that what is lent is watched.
 
+pub mod script;
 pub mod tree;
 
 use std::ffi::c_uint;

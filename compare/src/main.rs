@@ -4,21 +4,40 @@ mod capi;
 mod compute;
 mod list;
 mod mutate;
+mod program;
 mod repeat;
 mod report;
+mod script;
 mod tree;
 
 use std::process::ExitCode;
 
 use report::Report;
 
-const USAGE: &str = "usage: compare list|compute|tree --cases N --seed S
+const USAGE: &str = "usage: compare list|compute|tree|script --cases N --seed S
+       compare program PATH --cases N --seed S
        compare repeat library|second read|compute TIMES";
 
+/// What is compared.
+enum Which {
+    Layer(fn(usize, u64) -> Report),
+    /// The program at a path.
+    Program(String),
+}
+
 struct Run {
-    layer: fn(usize, u64) -> Report,
+    which: Which,
     cases: usize,
     seed: u64,
+}
+
+impl Run {
+    fn report(&self) -> Report {
+        match &self.which {
+            Which::Layer(compare) => compare(self.cases, self.seed),
+            Which::Program(path) => program::compare(path, self.cases, self.seed),
+        }
+    }
 }
 
 fn main() -> ExitCode {
@@ -31,7 +50,7 @@ fn main() -> ExitCode {
         eprintln!("{USAGE}");
         return ExitCode::FAILURE;
     };
-    let report = (run.layer)(run.cases, run.seed);
+    let report = run.report();
     print!("{}", report.text());
     if report.differences() == 0 && report.cases() == run.cases {
         ExitCode::SUCCESS
@@ -52,11 +71,16 @@ fn repeated(who: &str, what: &str, times: &str) -> ExitCode {
 }
 
 fn parse(words: &[&str]) -> Option<Run> {
-    let &[layer, "--cases", cases, "--seed", seed] = words else {
+    let (which, rest) = match words {
+        ["program", path, rest @ ..] => (Which::Program(path.to_string()), rest),
+        [layer, rest @ ..] => (Which::Layer(layer_by_name(layer)?), rest),
+        [] => return None,
+    };
+    let &["--cases", cases, "--seed", seed] = rest else {
         return None;
     };
     Some(Run {
-        layer: layer_by_name(layer)?,
+        which,
         cases: cases.parse().ok().filter(|&cases| cases > 0)?,
         seed: seed.parse().ok()?,
     })
@@ -67,6 +91,7 @@ fn layer_by_name(name: &str) -> Option<fn(usize, u64) -> Report> {
         "list" => Some(list::compare),
         "compute" => Some(compute::compare),
         "tree" => Some(tree::compare),
+        "script" => Some(script::compare),
         _ => None,
     }
 }

@@ -14,6 +14,16 @@ pub fn decode(text: &str) -> Result<Vec<u8>, String> {
     Ok(bytes.collect())
 }
 
+/// As `decode`, over lines whose comments run from `#` to the line's end.
+pub fn decode_commented(text: &str) -> Result<Vec<u8>, String> {
+    let mut bytes = Vec::new();
+    for (line, at) in text.lines().zip(1..) {
+        let digits = line.split('#').next().unwrap_or_default();
+        bytes.extend(decode(digits).map_err(|why| format!("line {at}: {why}"))?);
+    }
+    Ok(bytes)
+}
+
 pub fn encode(bytes: &[u8]) -> String {
     bytes.iter().map(|byte| format!("{byte:02x}")).collect()
 }
@@ -28,5 +38,12 @@ mod tests {
         assert_eq!(encode(&[0x0A, 0xFF, 0x10]), "0aff10");
         assert!(decode("0").is_err());
         assert!(decode("0g").is_err());
+    }
+
+    #[test]
+    fn comments_are_passed_over() {
+        let text = "# 01\n02 03 # 04\n\n05#\n";
+        assert_eq!(decode_commented(text).unwrap(), [2, 3, 5]);
+        assert!(decode_commented("00\n0").unwrap_err().contains("line 2"));
     }
 }

@@ -1,6 +1,6 @@
 //! The independent second program: reads and refuses access lists and
-//! identities, computes a new object's list and keeps a tree of objects with
-//! undo, by document 01. It shares nothing with the verified code.
+//! identities, computes a new object's list, keeps a tree of objects with undo
+//! and plays scripts, by document 01. It shares nothing with the verified code.
 #![forbid(unsafe_code)]
 
 pub mod ace;
@@ -16,5 +16,6 @@ pub mod reading;
 pub mod records;
 pub mod refusal;
 pub mod room;
+pub mod script;
 pub mod tally;
 pub mod tree;

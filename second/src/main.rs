@@ -7,14 +7,19 @@ use second::cases;
 use second::examples::{self, Example};
 use second::records::{self, Case};
 use second::tally::Tally;
+use second::{hex, script};
 
 const USAGE: &str = "usage:
   second cases list EXAMPLES    write the stored cases for reading
   second cases inherit          write the stored cases for the computation
   second cases tree             write the stored calls on a tree
+  second cases script           write the stored scripts
   second answer                 answer the case file on standard input
   second check-examples FILE    compare with the answers written by hand
-  second tally                  count the answers to the case file on standard input";
+  second tally                  count the answers to the case file on standard input
+  second play                   play the script on standard input
+  second bytes FILE             write the bytes that a file of commented hex holds
+  second long BYTES             write a script of at least so many bytes";
 
 fn main() -> ExitCode {
     let arguments: Vec<String> = std::env::args().skip(1).collect();
@@ -25,9 +30,13 @@ fn main() -> ExitCode {
         }
         ["cases", "inherit"] => write_cases(&cases::inherit::all()),
         ["cases", "tree"] => write_cases(&cases::tree::all()),
+        ["cases", "script"] => write_cases(&cases::script::all()),
         ["answer"] => answer(),
         ["check-examples", path] => check_examples(path),
         ["tally"] => tally(),
+        ["play"] => play(),
+        ["bytes", path] => write_bytes(path),
+        ["long", least] => write_long(least),
         _ => Err(USAGE.to_string()),
     };
     match outcome {
@@ -53,6 +62,26 @@ fn tally() -> Result<(), String> {
     write_out(format!("{lines}{:>8}  in all\n", cases.len()).as_bytes())
 }
 
+fn play() -> Result<(), String> {
+    write_out(script::play(&read_input()?).text.as_bytes())
+}
+
+fn write_bytes(path: &str) -> Result<(), String> {
+    let bytes = hex::decode_commented(&read_text(path)?);
+    write_out(&bytes.map_err(|why| format!("{path}: {why}"))?)
+}
+
+/// Piece by piece, so that it may be longer than memory.
+fn write_long(least: &str) -> Result<(), String> {
+    let least = least
+        .parse()
+        .map_err(|_| format!("{least:?} is no number"))?;
+    let mut out = io::stdout().lock();
+    cases::script::long::write(&mut out, least)
+        .and_then(|()| out.flush())
+        .map_err(|why| why.to_string())
+}
+
 fn check_examples(path: &str) -> Result<(), String> {
     let examples = read_examples(path)?;
     let differences: Vec<String> = examples.iter().filter_map(Example::difference).collect();
@@ -67,16 +96,23 @@ fn check_examples(path: &str) -> Result<(), String> {
 }
 
 fn read_examples(path: &str) -> Result<Vec<Example>, String> {
-    let text = std::fs::read_to_string(path).map_err(|why| format!("{path}: {why}"))?;
-    examples::parse_all(&text).map_err(|why| format!("{path}: {why}"))
+    examples::parse_all(&read_text(path)?).map_err(|why| format!("{path}: {why}"))
+}
+
+fn read_text(path: &str) -> Result<String, String> {
+    std::fs::read_to_string(path).map_err(|why| format!("{path}: {why}"))
 }
 
 fn read_cases() -> Result<Vec<Case>, String> {
-    let mut file = Vec::new();
+    records::decode_all(&read_input()?)
+}
+
+fn read_input() -> Result<Vec<u8>, String> {
+    let mut input = Vec::new();
     io::stdin()
-        .read_to_end(&mut file)
+        .read_to_end(&mut input)
         .map_err(|why| why.to_string())?;
-    records::decode_all(&file)
+    Ok(input)
 }
 
 fn write_out(bytes: &[u8]) -> Result<(), String> {

@@ -2,6 +2,7 @@
 
 pub mod calls;
 mod computation;
+mod playing;
 
 use crate::computing::Request;
 use crate::hex;
@@ -9,6 +10,7 @@ use crate::identity::{self, Identity, LONGEST};
 use crate::reading;
 use crate::tree::{Call, Player};
 pub use computation::{LONGEST_OTHER, LONGEST_ROOM, fresh_room};
+pub use playing::LONGEST_SCRIPT;
 
 const KIND_READ: u8 = 1;
 const KIND_IDENTITY: u8 = 2;
@@ -20,6 +22,7 @@ pub enum Case {
     Identity(Vec<u8>),
     Compute { request: Request, room: usize },
     Tree(Call),
+    Play { script: Vec<u8>, out_length: u16 },
 }
 
 impl Case {
@@ -34,6 +37,7 @@ impl Case {
             Case::Identity(bytes) => (KIND_IDENTITY, 0, bytes),
             Case::Compute { request, room } => return computation::encode(request, *room, out),
             Case::Tree(call) => return calls::encode(call, out),
+            Case::Play { script, out_length } => return playing::encode(script, *out_length, out),
         };
         out.extend_from_slice(&[kind, 0]);
         out.extend_from_slice(&row_length.to_le_bytes());
@@ -42,7 +46,7 @@ impl Case {
     }
 }
 
-/// Calls of a tree are closed by an end; other records need none.
+/// Calls of a tree and scripts are closed by an end; other records need none.
 pub fn encode_all(cases: &[Case]) -> Vec<u8> {
     let mut file = Vec::new();
     for case in cases {
@@ -55,7 +59,7 @@ pub fn encode_all(cases: &[Case]) -> Vec<u8> {
 }
 
 fn ask_for_an_end(cases: &[Case]) -> bool {
-    matches!(cases.last(), Some(Case::Tree(_)))
+    matches!(cases.last(), Some(Case::Tree(_) | Case::Play { .. }))
 }
 
 /// Takes all records of a case file, or says what is wrong with one.
@@ -79,6 +83,7 @@ fn decode(file: &[u8]) -> Result<(Case, &[u8]), &'static str> {
     match file.first() {
         Some(&KIND_COMPUTE) => return computation::decode(file),
         Some(kind) if calls::KINDS.contains(kind) => return calls::decode(file),
+        Some(&playing::KIND) => return playing::decode(file),
         _ => {}
     }
     let (head, rest) = file.split_first_chunk::<8>().ok_or("cut head")?;
@@ -102,7 +107,7 @@ pub fn fresh_row(length: u16) -> Vec<u16> {
     (0..length).map(|i| u16::MAX - i).collect()
 }
 
-/// A line for each answer. Only the calls of a tree look back at what came
+/// A line for each answer, and behind it the text of a script. Only the calls of a tree look back at what came
 /// before them.
 pub fn answer_lines(cases: &[Case]) -> String {
     let mut player = Player::default();
@@ -118,6 +123,7 @@ fn answer_line(case: &Case, player: &mut Player) -> String {
         Case::Identity(bytes) => identity_line(bytes),
         Case::Compute { request, room } => computation::line(request, *room),
         Case::Tree(call) => calls::line(call, &player.play(call)),
+        Case::Play { script, out_length } => playing::lines(script, *out_length),
     }
 }
 

@@ -6,7 +6,8 @@ use crate::computing::{self, Request};
 use crate::identity;
 use crate::reading;
 use crate::records::{Case, fresh_room, fresh_row};
-use crate::tree::{Call, Player};
+use crate::script::{self, Ending};
+use crate::tree::{Call, Outcome, Player};
 
 #[derive(Default)]
 pub struct Tally {
@@ -18,13 +19,30 @@ impl Tally {
         let mut tally = Tally::default();
         let mut player = Player::default();
         for case in cases {
-            tally.add(label(case, &mut player));
+            if let Case::Play { script, out_length } = case {
+                tally.add_script(script, *out_length);
+            } else {
+                tally.add(label(case, &mut player));
+            }
         }
         tally
     }
 
     pub fn add(&mut self, label: String) {
         *self.counts.entry(label).or_default() += 1;
+    }
+
+    /// How it ended, and what became of each of its records.
+    fn add_script(&mut self, script: &[u8], out_length: u16) {
+        let played = script::play_watched(script, |call, outcome| {
+            self.add(call_label("record", call, outcome));
+        });
+        let too_short = usize::from(out_length) < played.text.len();
+        self.add(match played.ending {
+            _ if too_short => "play 8  out too short".to_string(),
+            Ending::Listing { .. } => "play 0  listing".to_string(),
+            Ending::Bad { why, .. } => format!("play 0  {}", why.name()),
+        });
     }
 
     pub fn count(&self, label: &str) -> usize {
@@ -52,19 +70,19 @@ fn label(case: &Case, player: &mut Player) -> String {
             }
         }
         Case::Compute { request, room } => compute_label(request, *room),
-        Case::Tree(call) => tree_label(call, player),
+        Case::Tree(call) => call_label("tree", call, &player.play(call)),
+        Case::Play { .. } => unreachable!("a script is counted record by record"),
     }
 }
 
-fn tree_label(call: &Call, player: &mut Player) -> String {
-    let outcome = player.play(call);
+fn call_label(of: &str, call: &Call, outcome: &Outcome) -> String {
     let name = call.name();
     match outcome.result() {
-        None => format!("tree {name}"),
-        Some(Ok(_)) => format!("tree {name} 0"),
+        None => format!("{of} {name}"),
+        Some(Ok(_)) => format!("{of} {name} 0"),
         Some(Err(refused)) => {
             let number = refused.answer().number;
-            format!("tree {name} {number}  {}", refused.name())
+            format!("{of} {name} {number}  {}", refused.name())
         }
     }
 }

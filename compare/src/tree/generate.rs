@@ -120,7 +120,8 @@ fn long_list(random: &mut Random) -> Vec<u8> {
     list
 }
 
-fn spoil(random: &mut Random, change: &mut Change) {
+/// Spoils a part of a change, now and then its parent too.
+pub fn spoil(random: &mut Random, change: &mut Change) {
     let list_first = random.chance(1, 2);
     match change {
         Change::Add(Add { list, .. }) if list_first => *list = bad_list(random, list),

@@ -9,6 +9,7 @@ mod told;
 
 use crate::report::Report;
 use check::{Both, Ours};
+pub use generate::spoil;
 use second::cases::tree::palette::Palette;
 use second::random::Random;
 use second::tree::{Call, Part};

@@ -11,6 +11,7 @@ ghost use Rattle.inherit.specs.Compute.{valuesOf, answerFor, outFor};
 ghost use Rattle.tree.specs.Held.{yes};
 ghost use Rattle.tree.specs.Room.{roomOf};
 ghost use Rattle.tree.specs.Calls.{list as Edit·list, mark as Edit·mark, owners as Edit·owners, valuesOf as Calls·valuesOf, startTo, addTo, alterTo, undoTo, listTo, ownTo, dataTo, countsTo};
+ghost use Rattle.script.specs.Play.{playTo};
 ghost use Rattle.capi.specs.Places.{placesOf, settingsOf, mappingOf, yesOf, newOf};
 use inherit::Computed;
 use inherit::Mapping;
@@ -329,4 +330,12 @@ pub extern "C" fn pt_counts(room: &[u8], answer: &mut [u32; 8])
     ensures { λ _. ⌜ now (answer .exit) ≡ placesOf (Calls·valuesOf (countsTo (now (room .entry)))) ⌝ }
 {
     put_answer(answer, tree::counts(room));
+}
+
+// Plays a whole script in a room of its own and writes the program's text.
+#[no_mangle]
+pub extern "C" fn pt_play(script: &[u8], out: &mut [u8], answer: &mut [u32; 8])
+    ensures { λ _. ⌜ (now (answer .exit) ≡ placesOf (Calls·valuesOf (playTo (now (script .entry)) (now (out .entry)) .answer))) × (now (out .exit) ≡ playTo (now (script .entry)) (now (out .entry)) .bytes) ⌝ }
+{
+    put_answer(answer, script::play(script, out));
 }

@@ -3,6 +3,7 @@
 pub mod build;
 pub mod inherit;
 pub mod list;
+pub mod script;
 pub mod spoil;
 pub mod tree;
 

@@ -254,7 +254,7 @@ pub fn line(call: &Call, outcome: &Outcome) -> String {
     }
 }
 
-fn fnv_1a(bytes: &[u8]) -> u32 {
+pub fn fnv_1a(bytes: &[u8]) -> u32 {
     bytes.iter().fold(0x811C_9DC5, |hash, &byte| {
         (hash ^ u32::from(byte)).wrapping_mul(0x0100_0193)
     })

@@ -9,20 +9,24 @@ use crate::tree::{Add, Call, Calls, Change, NO_PARENT, Part};
 const STORED: usize = 300;
 
 pub fn sequences(random: &mut Random) -> Vec<Vec<Call>> {
-    let faults = Faults {
-        lists: bad_lists(),
-        sids: bad_sids(random),
-    };
+    let faults = Faults::draw(random);
     (0..STORED).map(|_| one(random, &faults)).collect()
 }
 
-struct Faults {
+pub struct Faults {
     lists: Vec<Vec<u8>>,
     sids: Vec<Vec<u8>>,
 }
 
 impl Faults {
-    fn spoil(&self, random: &mut Random, change: &mut Change) {
+    pub fn draw(random: &mut Random) -> Faults {
+        Faults {
+            lists: bad_lists(),
+            sids: bad_sids(random),
+        }
+    }
+
+    pub fn spoil(&self, random: &mut Random, change: &mut Change) {
         let list_first = random.chance(1, 2);
         match change {
             Change::Add(Add { list, .. }) if list_first => *list = self.list(random),

@@ -1,8 +1,8 @@
 //! The stored sequences of calls on a tree.
 
-mod chains;
-mod crossing;
-mod fresh;
+pub(super) mod chains;
+pub(super) mod crossing;
+pub(super) mod fresh;
 mod limits;
 pub mod make;
 mod orders;
@@ -10,11 +10,11 @@ pub mod palette;
 mod read_backs;
 mod refusals;
 mod sequence;
-mod shapes;
+pub(super) mod shapes;
 mod sizes;
 mod starts;
 mod steps;
-mod worked;
+pub(super) mod worked;
 
 use crate::random::Random;
 use crate::records::Case;

@@ -18,7 +18,7 @@ pub fn sequences() -> Vec<Vec<Call>> {
 }
 
 /// K1 to K10, but for K6, whose list would be the default one.
-fn pairs() -> Vec<(u8, Add)> {
+pub fn pairs() -> Vec<(u8, Add)> {
     let of_one_plain_entry = |traits| below(0, traits).with_list(one_entry(0x00, 18));
     vec![
         (0x03, below(0, CONTAINER)),

@@ -1,0 +1,10 @@
+pub mod Tables
+pub mod Steps
+pub mod Folds
+pub mod Feeds
+pub mod Pulls
+pub mod Laid
+pub mod Listings
+pub mod Plays
+pub mod Worked
+pub mod Determined

@@ -1,0 +1,157 @@
+-- Laws of the listing: its lines, what the tree answers for each, and the text on the front of what is lent for it.
+use mathlib.Core.Path.{_≡_, refl, sym, ap, _∙_}
+use mathlib.Core.List.{List, [], _++_}
+use mathlib.Core.Bool.{Bool, true, false, cond}
+use Prim.Native.Nat.{ℕ, _+_, _*_, _≤_, _<_}
+use native.Mathlib.Nat.{zero-add}
+use native.Mathlib.Numerals.{add-one}
+use native.Mathlib.Omega.{arith}
+use lib.ListN.{length, getD}
+use Rattle.list.proofs.Tests.{tests}
+use Rattle.inherit.specs.Given.{Optional, absent, present}
+use Rattle.tree.specs.declared.Answer.{Answer}
+use Rattle.tree.specs.declared.Answer.the-variants.{Done, Refused}
+use Rattle.tree.specs.Held.{hasList, bytesIn, held}
+use Rattle.tree.specs.Room.{objects, slot}
+use Rattle.tree.specs.Formed.{formed}
+use Rattle.tree.specs.Calls.{need, told, onObject, bytesIf, copied, listTo, countsTo}
+use Rattle.tree.specs.Replay.{shown}
+use Rattle.tree.proofs.Tested.{head-says, formed-parts, bytes-most}
+use Rattle.tree.proofs.Tab.{length-tab, getD-tab}
+use Rattle.script.specs.Text.{decimal, objects-text, none-text, space, newline, columnsBy, columns, line, lines, heading, listing, badLine, laidAt}
+use Rattle.script.specs.Play.{Ending, Listed, BadAt, textOf, answerFor, written, listingTo}
+use Rattle.script.proofs.Laid.{laid-nothing, laid-all, Lays, lays, lays-then}
+
+-- ---- the columns
+
+pub columns-none : (n k : ℕ) {is : Bool} → is ≡ false → columnsBy n is k ≡ none-text
+unfolding columnsBy
+columns-none n k e = rw e
+
+pub columns-some : (n k : ℕ) {is : Bool} → is ≡ true → columnsBy n is k ≡ decimal n ++ (space ++ decimal k)
+unfolding columnsBy
+columns-some n k e = rw e
+
+-- from the tree's answer
+pub columns-told : (o : Optional) {n k : ℕ} {is : Bool} → told o ≡ Done n is k → columnsBy n is k ≡ columns o
+unfolding told columns
+columns-told absent e = cc
+columns-told (present s) e = cc
+
+-- a list's answer is no refusal
+pub told-done : (o : Optional) {k w at : ℕ} → told o ≡ Refused k w at → ⊥
+unfolding told
+told-done absent e = let z : _≡_ {A = ℕ} 0 1 = cc in omega arith
+told-done (present s) e = let z : _≡_ {A = ℕ} 0 1 = cc in omega arith
+
+-- a line by the tree's answer
+pub line-told : (i : ℕ) (o : Optional) {n k at r : ℕ} {is : Bool} {d out : List ℕ} → told o ≡ Done n is k
+    → Lays at (decimal i ++ (space ++ (columnsBy n is k ++ newline))) d r out → Lays at (line i o) d r out
+unfolding line
+line-told i o e l = rw (← columns-told o e) l
+
+-- ---- the lists of a room
+
+pub lists-length : (r : List ℕ) → length (shown r .lists) ≡ objects r
+unfolding shown
+lists-length r = length-tab (objects r) _
+
+pub lists-at : (r : List ℕ) (i : ℕ) → i < objects r → getD (shown r .lists) i absent ≡ held (slot i r)
+unfolding shown
+lists-at r i h = getD-tab (objects r) (λ j. held (slot j r)) i absent h
+
+pub objects-most : (r : List ℕ) → formed r ≡ true → objects r ≤ 64
+objects-most r h = let f = head-says r (formed-parts r h .head-ok) in omega arith
+
+held-most : (s : List ℕ) → length (bytesIf (held s)) ≤ 1024
+unfolding bytesIf
+held-most s = by (hasList s)
+  where
+    by : (b : Bool) → length (bytesIf (cond b (present (bytesIn s)) absent)) ≤ 1024
+    by true = bytes-most s
+    by false = omega arith
+
+-- 1,024 bytes are room enough for a list
+pub list-told : (i : ℕ) (r out : List ℕ) → formed r ≡ true → i < objects r → length out ≡ 1024 → listTo i r out .answer ≡ told (held (slot i r))
+unfolding listTo onObject copied need
+list-told i r out f h e =
+    let m : length (bytesIf (held (slot i r))) ≤ length out = rw e (held-most (slot i r)) in
+    simp (tests, f)
+
+-- ---- the lines one after another
+
+lines-more : (i : ℕ) (os : List Optional) → lines (i + 1) os ≡ lines i os ++ line i (getD os i absent)
+unfolding lines
+lines-more i os = rw add-one
+
+-- the first i lines are laid in d from `from` on, and end at `at`
+pub record Lined (os : List Optional) (from : ℕ) (d : List ℕ) (i at : ℕ) (out : List ℕ) : Type 0 where
+  pub laid : Lays from (lines i os) d at out
+  pub most : at ≤ from + 63 * i
+
+pub lined-none : (os : List Optional) (from : ℕ) (d : List ℕ) → Lined os from d 0 from d
+unfolding lines
+lined-none os from d = record { laid = lays from [] d from d (omega arith) (sym (laid-nothing from d)); most = omega arith }
+
+pub lined-more : {os : List Optional} {from i at end : ℕ} {d out done : List ℕ} {o : Optional} → Lined os from d i at out → getD os i absent ≡ o → end ≤ at + 63
+    → Lays at (line i o) out end done → Lined os from d (i + 1) end done
+lined-more {os} {i = i} g e h l = record { laid = rw (lines-more i os, e) (lays-then (g .laid) l); most = omega (arith, g .most) }
+
+-- the heading, and all lines
+pub lined-all : {os : List Optional} {from n i at : ℕ} {d out done : List ℕ} → n ≡ length os → i ≡ n → Lays 0 (objects-text ++ (decimal n ++ newline)) d from out
+    → Lined os from out i at done → (at ≡ length (listing os)) × (done ≡ laidAt 0 (listing os) d)
+unfolding listing heading
+lined-all e f h g = let l = lays-then h (rw f at (g .laid)) in rw (← e) (l .ends ∙ zero-add _, l .text)
+
+-- ---- a text on the front of what is lent for it
+
+module _ (e : Ending) (out : List ℕ) where
+  written-no : length out < length (textOf e) → {a : Answer} → a ≡ Refused 8 0 0 → (a ≡ written e out .answer) × (out ≡ written e out .bytes)
+  unfolding written copied need
+  written-no h f = simp tests (f, refl)
+
+  written-all : length (textOf e) ≤ length out → (answerFor e ≡ written e out .answer) × (laidAt 0 (textOf e) out ≡ written e out .bytes)
+  unfolding written copied need
+  written-all h = simp tests (refl, laid-all (textOf e) out h)
+
+module _ (n : ℕ) (out : List ℕ) {r : ℕ} (e : r ≡ length (badLine n)) where
+  pub bad-no : length out < r → {a : Answer} → a ≡ Refused 8 0 0 → (a ≡ written (BadAt n) out .answer) × (out ≡ written (BadAt n) out .bytes)
+  unfolding textOf
+  bad-no h f = written-no (BadAt n) out (omega arith) f
+
+  pub bad-all : r ≤ length out → {done : List ℕ} → done ≡ laidAt 0 (badLine n) out → (Done r false 0 ≡ written (BadAt n) out .answer) × (done ≡ written (BadAt n) out .bytes)
+  unfolding textOf answerFor
+  bad-all h f = let w = written-all (BadAt n) out (omega arith) in (ap (λ (k : ℕ). Done k false 0) e ∙ w .0, f ∙ w .1)
+
+module _ (os : List Optional) (out : List ℕ) {r : ℕ} (e : r ≡ length (listing os)) where
+  pub listed-no : length out < r → {a : Answer} → a ≡ Refused 8 0 0 → (a ≡ written (Listed os) out .answer) × (out ≡ written (Listed os) out .bytes)
+  unfolding textOf
+  listed-no h f = written-no (Listed os) out (omega arith) f
+
+  pub listed-all : r ≤ length out → {n : ℕ} {done : List ℕ} → n ≡ length os → done ≡ laidAt 0 (listing os) out
+      → (Done r true n ≡ written (Listed os) out .answer) × (done ≡ written (Listed os) out .bytes)
+  unfolding textOf answerFor
+  listed-all h g f = let w = written-all (Listed os) out (omega arith) in (rw (e, g) (w .0), f ∙ w .1)
+
+-- ---- a room's listing, by what the tree answers of its counts
+
+pub counts-done : (r : List ℕ) {n k : ℕ} {is : Bool} → countsTo r ≡ Done n is k → (formed r ≡ true) × (n ≡ objects r)
+unfolding countsTo
+counts-done r {n} {k} {is} e = by (formed r) refl
+  where
+    by : (b : Bool) → formed r ≡ b → (formed r ≡ true) × (n ≡ objects r)
+    by true f = let g = rw f at e in (f, (cc))
+    by false f = let g = rw f at e in let z : _≡_ {A = ℕ} 0 1 = cc in absurd (omega arith)
+
+pub listing-done : (r out : List ℕ) → formed r ≡ true → {a : Answer} {done : List ℕ} → (a ≡ written (Listed (shown r .lists)) out .answer) × (done ≡ written (Listed (shown r .lists)) out .bytes)
+    → (a ≡ listingTo r out .answer) × (done ≡ listingTo r out .bytes)
+unfolding listingTo need
+listing-done r out f w = rw f w
+
+pub listing-refused : (r out : List ℕ) {k w at : ℕ} → countsTo r ≡ Refused k w at → (Refused k w at ≡ listingTo r out .answer) × (out ≡ listingTo r out .bytes)
+unfolding countsTo listingTo need
+listing-refused r out {k} {w} {at} e = by (formed r) refl
+  where
+    by : (b : Bool) → formed r ≡ b → (Refused k w at ≡ listingTo r out .answer) × (out ≡ listingTo r out .bytes)
+    by true f = let g = rw f at e in let z : _≡_ {A = ℕ} 0 1 = cc in absurd (omega arith)
+    by false f = let g = rw f at e in rw f (sym g, refl)

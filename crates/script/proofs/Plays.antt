@@ -1,0 +1,173 @@
+-- A script in its room: the tree is a started one, every record leaves it well formed, and a listing is of the lists worked out afresh.
+use mathlib.Core.Path.{_≡_, refl, sym, ap, _∙_, subst}
+use mathlib.Core.Bool.{Bool, true, false, cond, _&&_}
+use mathlib.Core.List.{List, [], _∷_}
+use mathlib.Core.Option.{some}
+use Prim.Native.Nat.{ℕ, zero, suc, _+_, _-_, _≤_, _<_}
+use native.Mathlib.Omega.{arith}
+use lib.ListN.{length, take, drop, replicate, length-append, length-drop, length-replicate}
+use lib.Seq.{take-all}
+use lib.Dec.{eqb, leb}
+use borrow.Author.Tests.{leb-true, eq-eqb, ne-eqb}
+use Rattle.list.proofs.Tests.{both-true}
+use Rattle.list.proofs.Writes.{front-all}
+use Rattle.inherit.specs.Given.{Optional, absent}
+use Rattle.inherit.specs.Compute.{ruleOk}
+use Rattle.tree.specs.declared.Answer.{Answer}
+use Rattle.tree.specs.Room.{limitsOk, settingsFor, emptyRoom}
+use Rattle.tree.specs.Formed.{formed}
+use Rattle.tree.specs.Calls.{need, readable, short, startOk, startTo}
+use Rattle.tree.specs.History.{Call, afresh, remains}
+use Rattle.tree.specs.Replay.{Change, rules, shown}
+use Rattle.tree.specs.Played.{callTo, accepted, played}
+use Rattle.tree.proofs.Lays.{length-settings}
+use Rattle.tree.proofs.Demand3.{Reached, demand3, keeps}
+use Rattle.script.specs.declared.records.Found.{Found}
+use Rattle.script.specs.declared.records.Found.the-variants.{Cut, Bad, Record}
+use Rattle.script.specs.Record.{asked, stepOf}
+use Rattle.script.specs.Fold.{Run, past, carried, onStep, runBy, runOf, onCall, callsBy, callsOf}
+use Rattle.script.proofs.Folds.{run-used}
+use Rattle.script.specs.Play.{mapping, beginTo, fresh, Ending, Listed, BadAt, headOk, endOf, endingOf, written, listingTo, playTo}
+
+-- ---- the room
+
+-- the start of a script's tree is accepted
+start-done : (r : List ℕ) → length r ≡ 55400 → accepted (startTo 16 16 2 mapping absent r .answer) ≡ true
+unfolding startTo need readable short startOk limitsOk ruleOk
+start-done r h = rw h refl
+
+pub begun : accepted (beginTo (replicate 55400 0) .answer) ≡ true
+unfolding beginTo
+begun = start-done (replicate 55400 0) (length-replicate {A = ℕ} 55400 0)
+
+-- whatever the room held
+begin-empty : (r : List ℕ) → length r ≡ 55400 → beginTo r .bytes ≡ emptyRoom 16 16 2 mapping absent
+unfolding beginTo startTo need readable short startOk limitsOk ruleOk emptyRoom
+begin-empty r h =
+    rw h
+    (front-all (emptyRoom 16 16 2 mapping absent) r
+    (rw h (simp (length-append, length-replicate, length-settings 2 mapping absent refl) (omega arith))))
+
+pub begin-any : (r : List ℕ) → length r ≡ 55400 → beginTo r .bytes ≡ fresh
+unfolding fresh
+begin-any r h = begin-empty r h ∙ sym (begin-empty (replicate 55400 0) (length-replicate {A = ℕ} 55400 0))
+
+-- every mixture of calls on it is demand 3's
+pub script-reached : (qs : List (Call Change)) → Reached 16 16 (settingsFor 2 mapping absent) fresh qs
+unfolding beginTo fresh
+script-reached qs = demand3 16 16 2 mapping absent (replicate 55400 0) begun qs
+
+pub fresh-formed : formed fresh ≡ true
+unfolding played
+fresh-formed = script-reached [] .well
+
+-- ---- records leave a room well formed
+
+step-formed : (x : Found) (r : List ℕ) (next : ℕ → Run) → formed r ≡ true → ((n : ℕ) → formed (next n .room) ≡ true) → formed (onStep x r next .room) ≡ true
+unfolding onStep past
+step-formed Cut r next h f = h
+step-formed Bad r next h f = h
+step-formed (Record n) r next h f = f n
+
+formed-by : (more : ℕ) (t r : List ℕ) → formed r ≡ true → formed (runBy more t r .room) ≡ true
+unfolding runBy carried
+formed-by zero t r h = h
+formed-by (suc more) t r h =
+    step-formed (stepOf t) r (λ n. runBy more (drop n t) (carried n t r)) h
+    (λ n. formed-by more (drop n t) (carried n t r) (keeps r h (asked (take n t)) .well))
+
+pub run-formed : (t r : List ℕ) → formed r ≡ true → formed (runOf t r .room) ≡ true
+unfolding runOf
+run-formed t r h = formed-by (suc (length t)) t r h
+
+-- ---- the room after a script is the room after the calls that it asks
+
+step-played : (x : Found) (r₀ : List ℕ) (qs : List (Call Change)) (next : ℕ → Run) (calls : ℕ → List (Call Change))
+    → ((n : ℕ) → next n .room ≡ played (calls n) r₀) → onStep x (played qs r₀) next .room ≡ played (onCall x qs calls) r₀
+unfolding onStep onCall past
+step-played Cut r₀ qs next calls f = refl
+step-played Bad r₀ qs next calls f = refl
+step-played (Record n) r₀ qs next calls f = f n
+
+played-by : (more : ℕ) (t r₀ : List ℕ) (qs : List (Call Change)) → runBy more t (played qs r₀) .room ≡ played (callsBy more t qs) r₀
+unfolding runBy callsBy carried played
+played-by zero t r₀ qs = refl
+played-by (suc more) t r₀ qs =
+    step-played (stepOf t) r₀ qs (λ n. runBy more (drop n t) (carried n t (played qs r₀))) (λ n. callsBy more (drop n t) (asked (take n t) ∷ qs))
+    (λ n. played-by more (drop n t) r₀ (asked (take n t) ∷ qs))
+
+pub run-played : (t r : List ℕ) → runOf t r .room ≡ played (callsOf t) r
+unfolding runOf callsOf played
+run-played t r = played-by (suc (length t)) t r []
+
+-- ---- how a script ends
+
+pub head-long : (s : List ℕ) → headOk s ≡ true → 5 ≤ length s
+unfolding headOk
+head-long s h = leb-true 5 (length s) (both-true (leb 5 (length s)) _ h .0)
+
+-- what is written for the ending is what the script writes
+plays : (s : List ℕ) (e : Ending) (out : List ℕ) (a : Answer) (done : List ℕ) → endingOf s ≡ e → (a ≡ written e out .answer) × (done ≡ written e out .bytes)
+    → (a ≡ playTo s out .answer) × (done ≡ playTo s out .bytes)
+unfolding playTo
+plays s e out a done h w = rw h w
+
+-- a wrong head
+pub plays-head : (s out : List ℕ) (a : Answer) (done : List ℕ) → headOk s ≡ false → (a ≡ written (BadAt 0) out .answer) × (done ≡ written (BadAt 0) out .bytes)
+    → (a ≡ playTo s out .answer) × (done ≡ playTo s out .bytes)
+unfolding endingOf
+plays-head s out a done h w = plays s (BadAt 0) out a done (rw h refl) w
+
+-- the records of s were played: so many bytes of them were whole, and left the room so
+pub record Ran (s : List ℕ) (used : ℕ) (room : List ℕ) : Type 0 where
+  pub head : headOk s ≡ true
+  pub bytes : used ≡ runOf (drop 5 s) fresh .used
+  pub rooms : room ≡ runOf (drop 5 s) fresh .room
+
+-- as the code has it, whatever r the room held
+pub ran : (s r w t : List ℕ) (used : ℕ) (room : List ℕ) → headOk s ≡ true → length r ≡ 55400 → w ≡ beginTo r .bytes → t ≡ take (length s - 5) (drop 5 s)
+    → used ≡ runOf t w .used → room ≡ runOf t w .room → Ran s used room
+ran s r w t used room h l b e u m =
+    let k : t ≡ drop 5 s = e ∙ take-all (length s - 5) (drop 5 s) (rw length-drop (omega arith)) in
+    let f : w ≡ fresh = b ∙ begin-any r l in
+    record { head = h; bytes = rw (k, f) at u; rooms = rw (k, f) at m }
+
+module _ (s : List ℕ) (used : ℕ) (room : List ℕ) (x : Ran s used room) where
+  pub ran-within : 5 + used ≤ length s
+  ran-within = omega (arith, x .bytes, run-used (drop 5 s) fresh, length-drop 5 s, head-long s (x .head))
+
+  module _ (out : List ℕ) (a : Answer) (done : List ℕ) where
+    pub plays-bad : 5 + used < length s → (a ≡ written (BadAt (5 + used)) out .answer) × (done ≡ written (BadAt (5 + used)) out .bytes)
+        → (a ≡ playTo s out .answer) × (done ≡ playTo s out .bytes)
+    unfolding endOf endingOf
+    plays-bad l w = plays s (BadAt (5 + used)) out a done (rw (x .head, ← x .bytes, ne-eqb (5 + used) (length s) (λ q. omega arith)) refl) w
+
+    pub plays-whole : length s ≤ 5 + used → (a ≡ listingTo room out .answer) × (done ≡ listingTo room out .bytes)
+        → (a ≡ playTo s out .answer) × (done ≡ playTo s out .bytes)
+    unfolding endOf endingOf listingTo need
+    plays-whole l w =
+        let q : 5 + used ≡ length s = omega (arith, ran-within) in
+        let f : formed room ≡ true = rw (x .rooms) (run-formed (drop 5 s) fresh fresh-formed) in
+        plays s (Listed (shown room .lists)) out a done (rw (x .head, ← x .bytes, ← x .rooms, eq-eqb (5 + used) (length s) q) refl) (rw f at w)
+
+-- ---- the listing
+
+listed-by : (b : Bool) (f os : List Optional) (n : ℕ) → cond b (Listed f) (BadAt n) ≡ Listed os → f ≡ os
+listed-by true f os n h = let e : f ≡ os = cc in e
+listed-by false f os n h = let z : _≡_ {A = ℕ} 0 1 = cc in absurd (omega arith)
+
+ends-listed : (n : ℕ) (f : Run) (os : List Optional) → endOf n f ≡ Listed os → shown (f .room) .lists ≡ os
+unfolding endOf
+ends-listed n f os h = listed-by (eqb (5 + f .used) n) (shown (f .room) .lists) os (5 + f .used) h
+
+head-listed : (b : Bool) (e : Ending) (os : List Optional) → cond b e (BadAt 0) ≡ Listed os → e ≡ Listed os
+head-listed true e os h = h
+head-listed false e os h = let z : _≡_ {A = ℕ} 0 1 = cc in absurd (omega arith)
+
+-- what a script lists are the lists worked out afresh from the root, of a replay of its accepted changes not since undone
+pub listed-afresh : (s : List ℕ) (os : List Optional) → endingOf s ≡ Listed os
+    → afresh (rules 16 (settingsFor 2 mapping absent)) 16 (remains (rules 16 (settingsFor 2 mapping absent)) 16 (callsOf (drop 5 s)) .done) ≡ some os
+unfolding endingOf
+listed-afresh s os h =
+    let e = ends-listed (length s) (runOf (drop 5 s) fresh) os (head-listed (headOk s) (endOf (length s) (runOf (drop 5 s) fresh)) os h) in
+    script-reached (callsOf (drop 5 s)) .lists-afresh ∙ ap (λ (r : List ℕ). some (shown r .lists)) (sym (run-played (drop 5 s) fresh)) ∙ ap some e

@@ -1,0 +1,138 @@
+-- The definitions, computed: records, numbers and texts, and document 01's own script with the whole text that it writes.
+use mathlib.Core.Path.{_≡_, refl, sym, ap, _∙_}
+use mathlib.Core.Bool.{true, false}
+use mathlib.Core.List.{List, [], _∷_, _++_, flatten}
+use mathlib.Core.Option.{Option, some}
+use Prim.Native.Nat.{ℕ, _+_, _*_, _≤_}
+use native.Mathlib.Omega.{arith}
+use lib.ListN.{drop, replicate}
+use Rattle.list.specs.Bytes.{le, spell, sameBytes, guidAt, part, putAt}
+use Rattle.list.specs.Identity.{sidLen, isSid, creator, placeholderOf, identityOf}
+use Rattle.list.specs.Entry.{plainOf, objectOf, objectKind, kindOk, flagsOk, headOf, wordAfter, entryBytes, tailOk, need, entryOf}
+use Rattle.list.specs.List.{revOk, headerOk, cut, entriesOf, headBytes, render, onGood, walkOf, finish, checkOf}
+use Rattle.inherit.specs.Given.{Optional, absent, present, entriesIf, typesOk, typesOf}
+use Rattle.inherit.specs.Copies.{anyHeritable, among, typeApplies, pass, kept, takesFirst, firstPart, takesSecond, secondPart, fromParent, own, fromCreator}
+use Rattle.inherit.specs.Last.{inPlace, mapped, resolved, lastOf, lastStep}
+use Rattle.inherit.specs.Branch.{inheritedBit, withCreator, fromDefault, branch, resultOf}
+use Rattle.inherit.specs.Compute.{anyObject, withRoom, need as needed, onReading, readable, ruleOk, computeOf, bytesFor}
+use Rattle.tree.specs.Held.{bytesIn, idIn, idFor, slotFor, blockFor}
+use Rattle.tree.specs.Room.{settingsFor}
+use Rattle.tree.specs.Formed.{placed}
+use Rattle.tree.specs.Work.{computed}
+use Rattle.tree.specs.Calls.{short, list, mark, owners, editAt, editBytes, nobody}
+use Rattle.tree.specs.History.{Call, edit, undo, bind, rest, replay, afresh, noted, unnoted, next, remains}
+use Rattle.tree.specs.Replay.{Change, add, alter, reads, fine, change, fromRoot, gather, work, rules, shown}
+use Rattle.script.specs.declared.records.Found.{Found}
+use Rattle.script.specs.declared.records.Found.the-variants.{Cut, Bad, Record}
+use Rattle.script.specs.Record.{nameEnd, listEnd, parentOf, sizeOf, formOk, asked, stepOf}
+use Rattle.script.specs.Fold.{past, carried, onStep, runBy, runOf, onCall, callsBy, callsOf}
+use Rattle.script.specs.Text.{digits, decimal, columnsBy, columns, line, lines, heading, listing, badLine}
+use Rattle.script.specs.Play.{mapping, headOk, Ending, Listed, BadAt, endOf, fresh, endingOf, textOf}
+use Rattle.script.proofs.Plays.{listed-afresh}
+
+-- ---- records
+
+-- an empty slice is cut, and so is every start of a record; undo is its number alone; 6 and 0 are unknown
+pub steps-worked :
+    (stepOf [] ≡ Cut)
+    × ((stepOf (5 ∷ []) ≡ Record 1)
+    × ((stepOf (6 ∷ []) ≡ Bad)
+    × ((stepOf (0 ∷ []) ≡ Bad)
+    × ((stepOf (3 ∷ 0 ∷ []) ≡ Cut)
+    × ((stepOf (3 ∷ 9 ∷ 1 ∷ 5 ∷ []) ≡ Record 3)
+    × ((stepOf (3 ∷ 9 ∷ 2 ∷ []) ≡ Bad)
+    × ((stepOf (2 ∷ 0 ∷ 0 ∷ 0 ∷ []) ≡ Record 4)
+    × ((stepOf (2 ∷ 0 ∷ 1 ∷ 0 ∷ []) ≡ Cut)
+    × (stepOf (4 ∷ 0 ∷ 0 ∷ 2 ∷ 7 ∷ 7 ∷ 1 ∷ []) ≡ Record 6)))))))))
+unfolding le nameEnd listEnd sizeOf formOk stepOf
+steps-worked = (refl, (refl, (refl, (refl, (refl, (refl, (refl, (refl, (refl, refl)))))))))
+
+-- a length of 0 removes the list; FF is no parent, and an object's number like any other
+pub asked-worked :
+    (asked (2 ∷ 7 ∷ 0 ∷ 0 ∷ []) ≡ edit (alter 7 (list absent)))
+    × ((asked (2 ∷ 0xFF ∷ 1 ∷ 0 ∷ 9 ∷ []) ≡ edit (alter 255 (list (present (9 ∷ [])))))
+    × ((asked (3 ∷ 1 ∷ 1 ∷ []) ≡ edit (alter 1 (mark true)))
+    × ((asked (4 ∷ 0 ∷ 0 ∷ 2 ∷ 7 ∷ 8 ∷ []) ≡ edit (alter 0 (owners [] (7 ∷ 8 ∷ []))))
+    × ((asked (5 ∷ []) ≡ undo) × ((parentOf 0xFF ≡ nobody) × (parentOf 0xFE ≡ 254))))))
+unfolding le part nameEnd listEnd parentOf asked
+asked-worked = (refl, (refl, (refl, (refl, (refl, (refl, refl))))))
+
+-- ---- texts
+
+pub numbers-worked :
+    (decimal 0 ≡ 48 ∷ []) × ((decimal 9 ≡ 57 ∷ []) × ((decimal 10 ≡ 49 ∷ 48 ∷ []) × (decimal 66069 ≡ 54 ∷ 54 ∷ 48 ∷ 54 ∷ 57 ∷ [])))
+unfolding digits decimal
+numbers-worked = (refl, (refl, (refl, refl)))
+
+-- "objects 2", "0 none 0", "1 8 0"; and "bad at 81"
+pub texts-worked :
+    (listing (absent ∷ present (2 ∷ 0 ∷ 8 ∷ 0 ∷ 0 ∷ 0 ∷ 0 ∷ 0 ∷ []) ∷ [])
+    ≡ 111 ∷ 98 ∷ 106 ∷ 101 ∷ 99 ∷ 116 ∷ 115 ∷ 32 ∷ 50 ∷ 10
+    ∷ 48 ∷ 32 ∷ 110 ∷ 111 ∷ 110 ∷ 101 ∷ 32 ∷ 48 ∷ 10
+    ∷ 49 ∷ 32 ∷ 56 ∷ 32 ∷ 48 ∷ 10 ∷ [])
+    × (badLine 81 ≡ 98 ∷ 97 ∷ 100 ∷ 32 ∷ 97 ∷ 116 ∷ 32 ∷ 56 ∷ 49 ∷ 10 ∷ [])
+unfolding le digits decimal columnsBy columns line lines heading listing badLine
+texts-worked = (refl, refl)
+
+-- ---- document 01's own script
+
+-- S-1-5-18
+abbrev system : List ℕ
+system = 0x01 ∷ 0x01 ∷ 0 ∷ 0 ∷ 0 ∷ 0 ∷ 0 ∷ 0x05 ∷ 0x12 ∷ 0 ∷ 0 ∷ 0 ∷ []
+
+-- owner and group S-1-5-18
+abbrev names : List ℕ
+names = 12 ∷ (system ++ (12 ∷ system))
+
+abbrev listed : ℕ → ℕ → List (List ℕ) → List ℕ
+listed size count es = 0x02 ∷ 0 ∷ size ∷ 0 ∷ count ∷ 0 ∷ 0 ∷ 0 ∷ flatten es
+
+abbrev entry : ℕ → List ℕ → List ℕ → List ℕ
+entry flags mask sid = 0x00 ∷ flags ∷ 0x14 ∷ 0 ∷ (mask ++ sid)
+
+-- a generic read mask as it came, and with the read mapping joined
+abbrev came : List ℕ
+came = 0x00 ∷ 0x00 ∷ 0x00 ∷ 0x80 ∷ []
+
+abbrev joined : List ℕ
+joined = 0x89 ∷ 0x00 ∷ 0x12 ∷ 0x80 ∷ []
+
+-- the worked parent as the root's own list, and one container below
+abbrev records : List ℕ
+records =
+    (1 ∷ 0xFF ∷ 1 ∷ 0 ∷ replicate 16 0)
+    ++ (names
+    ++ (28 ∷ 0 ∷ (listed 0x1C 1 (entry 0x03 came (creator 0) ∷ [])
+    ++ ((1 ∷ 0 ∷ 1 ∷ 0 ∷ replicate 16 0) ++ (names ++ (0 ∷ 0 ∷ []))))))
+
+abbrev document : List ℕ
+document = 0x41 ∷ 0x58 ∷ 0x53 ∷ 1 ∷ 0 ∷ records
+
+-- 28 bytes with one entry, and 48 with two
+abbrev lists : List Optional
+lists = present (listed 0x1C 1 (entry 0x03 joined system ∷ [])) ∷ present (listed 0x30 2 (entry 0x10 joined system ∷ entry 0x1B joined system ∷ [])) ∷ []
+
+-- its two records are whole, and no byte is left
+whole : endingOf document ≡ Listed (shown (runOf records fresh .room) .lists)
+unfolding le flatten nameEnd listEnd sizeOf formOk stepOf past onStep runBy runOf headOk endOf endingOf
+whole = refl
+
+-- what is worked out afresh from its two changes
+afresh-worked : afresh (rules 16 (settingsFor 2 mapping absent)) 16 (remains (rules 16 (settingsFor 2 mapping absent)) 16 (callsOf (drop 5 document)) .done) ≡ some lists
+unfolding le spell sameBytes guidAt part putAt sidLen isSid placeholderOf identityOf plainOf objectOf objectKind kindOk flagsOk headOf wordAfter entryBytes tailOk need entryOf revOk headerOk cut entriesOf headBytes render onGood walkOf finish checkOf entriesIf typesOk typesOf anyHeritable among typeApplies pass kept takesFirst firstPart takesSecond secondPart fromParent own fromCreator inPlace mapped resolved lastOf lastStep inheritedBit withCreator fromDefault branch resultOf anyObject withRoom needed onReading readable ruleOk computeOf bytesFor bytesIn idIn idFor slotFor blockFor settingsFor placed computed short editAt editBytes bind rest replay afresh noted unnoted next remains reads fine change fromRoot gather work rules nameEnd listEnd parentOf sizeOf formOk asked stepOf onCall callsBy callsOf flatten
+afresh-worked = refl
+
+some-same : (a b : List Optional) → _≡_ {A = Option (List Optional)} (some a) (some b) → a ≡ b
+some-same a b h = let e : a ≡ b = cc in e
+
+-- the three lines of document 01, byte for byte
+pub document-listed :
+    textOf (endingOf document)
+    ≡ 111 ∷ 98 ∷ 106 ∷ 101 ∷ 99 ∷ 116 ∷ 115 ∷ 32 ∷ 50 ∷ 10
+    ∷ 48 ∷ 32 ∷ 50 ∷ 56 ∷ 32 ∷ 49 ∷ 10
+    ∷ 49 ∷ 32 ∷ 52 ∷ 56 ∷ 32 ∷ 50 ∷ 10 ∷ []
+unfolding le digits decimal columnsBy columns line lines heading listing textOf flatten
+document-listed =
+    let a = listed-afresh document (shown (runOf records fresh .room) .lists) whole in
+    let e = some-same (shown (runOf records fresh .room) .lists) lists (sym a ∙ afresh-worked) in
+    ap textOf (whole ∙ ap Listed e) ∙ refl

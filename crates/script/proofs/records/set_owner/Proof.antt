@@ -1,0 +1,92 @@
+use borrow.Author.Needs.{needs}
+use Rattle.script.proofs.Tables.{name-by}
+use Rattle.script.specs.Record.{nameIn}
+use mathlib.Core.Path.{refl, ap, _∙_}
+use Prim.Native.Nat.{ℕ}
+use denote.Ref.{now}
+use Rattle.script.proofs.records.set_owner.Statement.{statement}
+use Rattle.script.proofs.records.set_owner.Tie as tie
+use Rattle.script.proofs.records.set_owner.Reads as reads
+use Rattle.script.proofs.records.set_owner.Lts as lts
+use Rattle.list.proofs.byte_in.Reads as byte-in-reads
+use Rattle.list.proofs.part_of.Reads as part-of-reads
+use Rattle.script.proofs.records.name_end.Reads as name-end-reads
+use Rattle.tree.proofs.set_owner.Reads as set-owner-reads
+
+-- src/records.rt:153:9
+name-end-requires : tie.Need-name-end-requires
+name-end-requires c κs = search needs
+
+-- src/records.rt:156:9
+byte-in-requires : tie.Need-byte-in-requires
+byte-in-requires c κs = search needs
+
+-- src/records.rt:156:9
+cast-set-owner : tie.Need-cast-set-owner
+cast-set-owner c = search needs
+
+-- src/records.rt:157:23
+byte-in-requires-2 : tie.Need-byte-in-requires-2
+byte-in-requires-2 c κs = search needs
+
+-- src/records.rt:157:23
+cast-part-of : tie.Need-cast-part-of
+cast-part-of c = search needs
+
+-- src/records.rt:157:9
+part-of-requires : tie.Need-part-of-requires
+part-of-requires c κs = search needs
+
+-- src/records.rt:158:20
+add-part-of : tie.Need-add-part-of
+add-part-of c = search needs
+
+-- src/records.rt:158:34
+byte-in-requires-3 : tie.Need-byte-in-requires-3
+byte-in-requires-3 c κs = search needs
+
+-- src/records.rt:158:34
+cast-part-of-2 : tie.Need-cast-part-of-2
+cast-part-of-2 c = search needs
+
+-- src/records.rt:158:9
+part-of-requires-2 : tie.Need-part-of-requires-2
+part-of-requires-2 c κs = search needs
+
+-- src/records.rt:154:5
+set-owner-requires : tie.Need-set-owner-requires
+set-owner-requires c κs = search needs
+
+-- src/records.rt:150:1
+same-length : tie.Need-same-length
+same-length c = search needs
+
+-- src/records.rt:150:1
+returns : tie.Need-returns
+returns c =
+    let t = now (c .before .before .before .before .before .before .before .before .before .before .before .before .args .t) in
+    let r = now (c .before .before .before .before .before .before .before .before .before .before .before .before .args .room) in
+    let i = c .before .before .before .before .before .before .before .byte-in .ensures in
+    let o = name-by t _ 2 _ (c .before .before .before .before .before .before .byte-in2 .ensures) (c .before .before .before .before .before .part-of .ensures) in
+    let g = name-by t _ _ _ (c .before .before .before .before .byte-in3 .ensures) (c .before .before .before .part-of2 .ensures) ∙ ap (λ (x : ℕ). nameIn x t) (c .before .before .before .before .before .before .before .before .before .name-end .ensures .0) in (
+      c .before .before .set-owner .ensures .0 ∙ rw (i, o, g) refl,
+      c .before .before .set-owner .ensures .1 ∙ rw (i, o, g) refl,
+    )
+
+pub set-owner-spec : {M : Type 1} → statement M
+set-owner-spec =
+    tie.close
+    (tie.spec
+    name-end-requires
+    byte-in-requires
+    cast-set-owner
+    byte-in-requires-2
+    cast-part-of
+    part-of-requires
+    add-part-of
+    byte-in-requires-3
+    cast-part-of-2
+    part-of-requires-2
+    set-owner-requires
+    same-length
+    returns)

@@ -1,0 +1,4 @@
+pub mod Record
+pub mod Fold
+pub mod Text
+pub mod Play

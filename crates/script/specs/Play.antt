@@ -1,0 +1,73 @@
+-- A whole script, played in a room of its own.
+use Prim.Native.Nat.{ℕ, _+_}
+use mathlib.Core.List.{List}
+use mathlib.Core.Bool.{Bool, true, false, cond, _&&_}
+use lib.ListN.{length, getD, drop, replicate}
+use lib.Dec.{eqb, leb}
+use Rattle.list.specs.Bytes.{le}
+use Rattle.inherit.specs.declared.Mapping.{Mapping}
+use Rattle.inherit.specs.Given.{Optional, absent}
+use Rattle.tree.specs.declared.Answer.{Answer}
+use Rattle.tree.specs.declared.Answer.the-variants.{Done, Refused}
+use Rattle.tree.specs.Room.{objects}
+use Rattle.tree.specs.Formed.{formed}
+use Rattle.tree.specs.Calls.{Outcome, need, copied, startTo}
+use Rattle.tree.specs.Replay.{shown}
+use Rattle.script.specs.Fold.{Run, runOf}
+use Rattle.script.specs.Text.{listing, badLine}
+
+-- the mapping of document 01's lists worked by hand
+abbrev pub mapping : Mapping
+mapping = record { read = 0x00120089; write = 0x00120116; execute = 0x001200A0; all = 0x001F01FF }
+
+-- the program's tree: limits 16 and 16, rule 2, that mapping, no default
+unfoldable pub beginTo : List ℕ → Outcome
+beginTo r = startTo 16 16 2 mapping absent r
+
+-- `AXS` and the 16-bit version 1
+unfoldable pub headOk : List ℕ → Bool
+headOk s =
+    leb 5 (length s)
+    && (eqb (getD s 0 0) 0x41
+    && (eqb (getD s 1 0) 0x58
+    && (eqb (getD s 2 0) 0x53
+    && eqb (le 2 (drop 3 s)) 1)))
+
+-- how a script ends: by the computed lists of all objects, or bad at an offset
+pub data Ending : Type 0 where
+  Listed : List Optional → Ending
+  BadAt : ℕ → Ending
+
+-- all bytes were whole records, or one that is bad or cut begins where they end
+unfoldable pub endOf : ℕ → Run → Ending
+endOf n f = cond (eqb (5 + f .used) n) (Listed (shown (f .room) .lists)) (BadAt (5 + f .used))
+
+-- the room that a script is played in
+unfoldable pub fresh : List ℕ
+fresh = beginTo (replicate 55400 0) .bytes
+
+unfoldable pub endingOf : List ℕ → Ending
+endingOf s = cond (headOk s) (endOf (length s) (runOf (drop 5 s) fresh)) (BadAt 0)
+
+-- the text that a run writes
+unfoldable pub textOf : Ending → List ℕ
+textOf (Listed os) = listing os
+textOf (BadAt n) = badLine n
+
+-- its length, whether it is the listing, and how many objects are in it
+unfoldable pub answerFor : Ending → Answer
+answerFor (Listed os) = Done (length (listing os)) true (length os)
+answerFor (BadAt n) = Done (length (badLine n)) false 0
+
+unfoldable pub written : Ending → List ℕ → Outcome
+written e out = copied (answerFor e) (textOf e) out
+
+-- ---- the calls
+
+-- a room's listing: 13, 8
+unfoldable pub listingTo : List ℕ → List ℕ → Outcome
+listingTo r out = need (formed r) 13 out (written (Listed (shown r .lists)) out)
+
+-- a whole script: 8
+unfoldable pub playTo : List ℕ → List ℕ → Outcome
+playTo s out = written (endingOf s) out

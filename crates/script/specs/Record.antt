@@ -1,0 +1,95 @@
+-- The records of a script, as document 01 lists them. A record is its bytes from its number on; bytes that are not there count as 0.
+use Prim.Native.Nat.{ℕ, _+_}
+use mathlib.Core.List.{List}
+use mathlib.Core.Bool.{Bool, true, false, cond, not, _&&_}
+use lib.ListN.{length, getD, drop}
+use lib.Dec.{eqb, leb}
+use Rattle.list.specs.Bytes.{le, part, guidAt}
+use Rattle.inherit.specs.Given.{Optional, lent}
+use Rattle.tree.specs.Held.{New}
+use Rattle.tree.specs.Calls.{list, mark, owners, nobody}
+use Rattle.tree.specs.History.{Call, edit, undo}
+use Rattle.tree.specs.Replay.{Change, add, alter}
+use Rattle.script.specs.declared.records.Found.{Found}
+use Rattle.script.specs.declared.records.Found.the-variants.{Cut, Bad, Record}
+
+-- ---- parts of a record
+
+abbrev pub numberOf : List ℕ → ℕ
+numberOf t = getD t 0 0
+
+-- a length byte at `at`, then as many bytes: an owner or a group; and where it ends
+abbrev pub nameIn : ℕ → List ℕ → List ℕ
+nameIn at t = part (at + 1) (getD t at 0) t
+
+unfoldable pub nameEnd : ℕ → List ℕ → ℕ
+nameEnd at t = at + 1 + getD t at 0
+
+-- an owner and then a group: where both end
+abbrev pub namesEnd : ℕ → List ℕ → ℕ
+namesEnd at t = nameEnd (nameEnd at t) t
+
+-- a 16-bit length at `at` (0 absent), then the list; and where it ends
+abbrev pub listIn : ℕ → List ℕ → Optional
+listIn at t = lent (not (eqb (le 2 (drop at t)) 0)) (part (at + 2) (le 2 (drop at t)) t)
+
+unfoldable pub listEnd : ℕ → List ℕ → ℕ
+listEnd at t = at + 2 + le 2 (drop at t)
+
+-- a kind or a mark is 1 or 0
+abbrev pub flagOk : ℕ → List ℕ → Bool
+flagOk at t = leb (getD t at 0) 1
+
+abbrev pub flag : ℕ → List ℕ → Bool
+flag at t = eqb (getD t at 0) 1
+
+-- the parent byte: FF is none
+unfoldable pub parentOf : ℕ → ℕ
+parentOf b = cond (eqb b 0xFF) nobody b
+
+-- ---- the five records
+
+-- 1 add: parent byte, kind, mark, 16 type bytes, owner, group, list. 2 set list: object byte, list. 3 mark: object byte, mark.
+-- 4: object byte, owner and group. 5 undo. How long each is; an unknown one is its number
+unfoldable pub sizeOf : List ℕ → ℕ
+sizeOf t =
+    cond (eqb (numberOf t) 1) (listEnd (namesEnd 20 t) t)
+    (cond (eqb (numberOf t) 2) (listEnd 2 t)
+    (cond (eqb (numberOf t) 3) 3
+    (cond (eqb (numberOf t) 4) (namesEnd 2 t)
+    1)))
+
+-- no kind or mark above 1, no unknown record
+unfoldable pub formOk : List ℕ → Bool
+formOk t =
+    cond (eqb (numberOf t) 1) (flagOk 2 t && flagOk 3 t)
+    (cond (eqb (numberOf t) 2) true
+    (cond (eqb (numberOf t) 3) (flagOk 2 t)
+    (cond (eqb (numberOf t) 4) true
+    (eqb (numberOf t) 5))))
+
+-- the object that record 1 adds
+abbrev pub newIn : List ℕ → New
+newIn t =
+    record {
+      parent = parentOf (getD t 1 0);
+      container = flag 2 t;
+      mark = flag 3 t;
+      type = guidAt t 4;
+      owner = nameIn 20 t;
+      group = nameIn (nameEnd 20 t) t;
+      list = listIn (namesEnd 20 t) t;
+    }
+
+-- what a whole record asks of a tree
+unfoldable pub asked : List ℕ → Call Change
+asked t =
+    cond (eqb (numberOf t) 1) (edit (add (newIn t)))
+    (cond (eqb (numberOf t) 2) (edit (alter (getD t 1 0) (list (listIn 2 t))))
+    (cond (eqb (numberOf t) 3) (edit (alter (getD t 1 0) (mark (flag 2 t))))
+    (cond (eqb (numberOf t) 4) (edit (alter (getD t 1 0) (owners (nameIn 2 t) (nameIn (nameEnd 2 t) t))))
+    undo)))
+
+-- the record at the front of t: cut where bytes of it are missing, bad by its form, else its length
+unfoldable pub stepOf : List ℕ → Found
+stepOf t = cond (leb (sizeOf t) (length t)) (cond (formOk t) (Record (sizeOf t)) Bad) Cut
