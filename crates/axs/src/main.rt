@@ -114,7 +114,8 @@ fn play_input(room: &mut [u8], buffer: &mut [u8]) -> End {
     if r.failed {
         return End::Failed;
     }
-    if !script::head_ok(&head[0..r.bytes]) {
+    let n = r.bytes;
+    if !script::head_ok(&head[0..n]) {
         return End::Bad { at: 0 };
     }
     script::begin(room);

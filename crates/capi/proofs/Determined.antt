@@ -28,6 +28,8 @@ use Rattle.capi.proofs.pt_room.Kinds as pt-room
 use Rattle.capi.proofs.pt_room.Reads as pt-room-reads
 use Rattle.capi.proofs.pt_counts.Kinds as pt-counts
 use Rattle.capi.proofs.pt_counts.Reads as pt-counts-reads
+use Rattle.capi.proofs.pt_play.Kinds as pt-play
+use Rattle.capi.proofs.pt_play.Reads as pt-play-reads
 use Rattle.capi.proofs.pt_read.Kinds as pt-read
 use Rattle.capi.proofs.pt_read.Reads as pt-read-reads
 
@@ -79,3 +81,6 @@ pt-data-determined κs a x y s t p q = (p .1 ∙ sym (q .1), p .0 ∙ sym (q .0)
 
 pub pt-counts-determined : Determines 2 pt-counts.ps pt-counts.r (λ κs x y s t. now (s .1 .0) ≡ now (t .1 .0)) pt-counts-reads.Learnt
 pt-counts-determined κs a x y s t p q = p ∙ sym q
+
+pub pt-play-determined : Determines 3 pt-play.ps pt-play.r (λ κs x y s t. (now (s .1 .0) ≡ now (t .1 .0)) × (now (s .1 .1 .0) ≡ now (t .1 .1 .0))) pt-play-reads.Learnt
+pt-play-determined κs a x y s t p q = (p .1 ∙ sym (q .1), p .0 ∙ sym (q .0))

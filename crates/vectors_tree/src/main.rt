@@ -5,8 +5,16 @@
 // 7 set mark: object, mark. 8 set owner: object; owner, group. 9 undo. 10 list, 11 own, 12 data: object, length of `out`.
 // 13 counts. 14 room: objects, steps. 0 is the end.
 ghost use Prim.Native.Nat.{_<_};
-use libc::STDIN_FILENO;
 use libc::STDOUT_FILENO;
+use stored::bad;
+use stored::end_line;
+use stored::half;
+use stored::prepare;
+use stored::print_answer;
+use stored::print_hash;
+use stored::print_space;
+use stored::print_word;
+use stored::read;
 
 const MOST_ROOM: usize = 220000;
 
@@ -16,40 +24,6 @@ const MOST_OUT: usize = 1100;
 const MOST_LIST: usize = 4098;
 
 const MOST_NAME: usize = 202;
-
-// What a byte of `out` holds before a call.
-const BEFORE: u8 = 0xAA;
-
-const HASH_START: u32 = 0x811C9DC5;
-
-const HASH_PRIME: u64 = 16777619;
-
-const HASH_BASE: u64 = 4294967296;
-
-fn wide(x: u8) -> u32
-    ensures { λ r. ⌜ r < 256 ⌝ }
-{
-    x as u32
-}
-
-fn print_word(x: u32) {
-    io::print_decimal(STDOUT_FILENO, x as u64);
-}
-
-fn print_space() {
-    io::write_all(STDOUT_FILENO, b" ");
-}
-
-fn end_line() {
-    io::write_all(STDOUT_FILENO, b"\n");
-}
-
-// The 16-bit number of two bytes, lowest first.
-fn half(low: u8, high: u8) -> u32
-    ensures { λ r. ⌜ r < 65536 ⌝ }
-{
-    wide(low) + 256 * wide(high)
-}
 
 // The 32-bit number at an offset of a call's numbers.
 fn word(head: &[u8; 36], at: usize) -> u32 {
@@ -97,15 +71,6 @@ fn text<'a>(string: &'a [u8]) -> &'a [u8] {
         return string;
     }
     &string[2..end]
-}
-
-// Fills the bytes from standard input; false where it ends before.
-fn read(bytes: &mut [u8]) -> bool {
-    let n = bytes.len();
-    if io::read_full(STDIN_FILENO, bytes) < n {
-        return false;
-    }
-    true
 }
 
 // Reads a string and its length; false where it's over its limit, which the buffer's length sets, or the input ends.
@@ -160,45 +125,6 @@ fn read_strings(call: u8, owner: &mut [u8], group: &mut [u8], list: &mut [u8]) -
         return false;
     }
     read_list(call, list)
-}
-
-fn prepare(out: &mut [u8]) {
-    let mut i = 0;
-    while i < out.len() {
-        out[i] = BEFORE;
-        i += 1;
-    }
-}
-
-// The product's lowest 32 bits.
-fn times_prime(x: u32) -> u32 {
-    (x as u64 * HASH_PRIME % HASH_BASE) as u32
-}
-
-// FNV-1a in 32 bits.
-fn hash(bytes: &[u8]) -> u32 {
-    let mut h = HASH_START;
-    let mut i = 0;
-    while i < bytes.len() {
-        h = times_prime(h ^ wide(bytes[i]));
-        i += 1;
-    }
-    h
-}
-
-fn print_hash(bytes: &[u8]) {
-    io::print_hex(STDOUT_FILENO, hash(bytes) as u64, 8);
-}
-
-// The call's byte and the eight values, with a space between them.
-fn print_answer(call: u8, answer: [u32; 8]) {
-    print_word(wide(call));
-    let mut i = 0;
-    while i < 8 {
-        print_space();
-        print_word(answer[i]);
-        i += 1;
-    }
 }
 
 // The length that the calls after a start are lent: its own where it was done.
@@ -377,11 +303,6 @@ fn run_rest(
         text(list),
         out,
     )
-}
-
-fn bad() -> bool {
-    io::write_all(STDOUT_FILENO, b"bad\n");
-    false
 }
 
 // The next call, or false at the end and where the input holds no call.

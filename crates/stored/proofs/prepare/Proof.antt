@@ -4,8 +4,8 @@ use native.Mathlib.Omega.{arith}
 use mathlib.Core.Path.{_≡_}
 use Prim.Native.Nat.{_≤_, _-_}
 use lib.ListN.{length, length-set}
-use Rattle.vectors_tree.proofs.prepare.Statement.{statement}
-use Rattle.vectors_tree.proofs.prepare.Tie as tie
+use Rattle.stored.proofs.prepare.Statement.{statement}
+use Rattle.stored.proofs.prepare.Tie as tie
 
 abbrev Inv-loop : tie.InvT-loop
 Inv-loop out₀ i₀ out i = (i ≤ length out) × (length out ≡ length out₀)

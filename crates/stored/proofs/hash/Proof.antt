@@ -2,8 +2,8 @@
 use borrow.Author.Needs.{needs}
 use Prim.Native.Nat.{_≤_, _-_}
 use lib.ListN.{length}
-use Rattle.vectors_tree.proofs.hash.Statement.{statement}
-use Rattle.vectors_tree.proofs.hash.Tie as tie
+use Rattle.stored.proofs.hash.Statement.{statement}
+use Rattle.stored.proofs.hash.Tie as tie
 
 abbrev Inv-loop : tie.InvT-loop
 Inv-loop bytes h₀ i₀ h i = i ≤ length bytes

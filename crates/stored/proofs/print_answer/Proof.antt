@@ -1,8 +1,8 @@
 -- The index stays within the answer. Assumes nothing.
 use borrow.Author.Needs.{needs}
 use Prim.Native.Nat.{_≤_, _-_}
-use Rattle.vectors_tree.proofs.print_answer.Statement.{statement}
-use Rattle.vectors_tree.proofs.print_answer.Tie as tie
+use Rattle.stored.proofs.print_answer.Statement.{statement}
+use Rattle.stored.proofs.print_answer.Tie as tie
 
 abbrev Inv-loop : tie.InvT-loop
 Inv-loop call answer i₀ i = i ≤ 8

@@ -1,0 +1,55 @@
+-- The buffers keep their lengths, and the turns run out. Assumes nothing.
+use borrow.Author.Needs.{needs}
+use mathlib.Core.Path.{_≡_}
+use lib.ListN.{length}
+use Rattle.vectors_script.proofs.main.Statement.{statement}
+use Rattle.vectors_script.proofs.main.Tie as tie
+
+abbrev Inv-loop : tie.InvT-loop
+Inv-loop script₀ out₀ turns₀ script out turns = (length script ≡ 140000) × (length out ≡ 1100)
+
+abbrev μ-loop : tie.MeasureT-loop
+μ-loop script₀ out₀ turns₀ script out turns = turns
+
+loop-holds : tie.Need-loop-holds Inv-loop μ-loop
+loop-holds c = search needs
+
+slice-aggregate-run-next : tie.Need-slice-aggregate-run-next Inv-loop μ-loop
+slice-aggregate-run-next c = search needs
+
+slice-aggregate-run-next-2 : tie.Need-slice-aggregate-run-next-2 Inv-loop μ-loop
+slice-aggregate-run-next-2 c = search needs
+
+run-next-requires : tie.Need-run-next-requires Inv-loop μ-loop
+run-next-requires c κs = search needs
+
+sub-turns : tie.Need-sub-turns Inv-loop μ-loop
+sub-turns c = search needs
+
+loop-less : tie.Need-loop-less Inv-loop μ-loop
+loop-less c = search needs
+
+loop-again : tie.Need-loop-again Inv-loop μ-loop
+loop-again c = search needs
+
+returns : tie.Need-returns Inv-loop μ-loop
+returns c = search needs
+
+returns-2 : tie.Need-returns-2 Inv-loop μ-loop
+returns-2 c = search needs
+
+pub main-spec : {M : Type 1} → statement M
+main-spec =
+    tie.close
+    (tie.spec
+    Inv-loop
+    μ-loop
+    loop-holds
+    slice-aggregate-run-next
+    slice-aggregate-run-next-2
+    run-next-requires
+    sub-turns
+    loop-less
+    loop-again
+    returns
+    returns-2)
