@@ -8,9 +8,6 @@ use libc::STDIN_FILENO;
 use libc::STDOUT_FILENO;
 use tree::Answer;
 
-// A tree for 16 objects and 16 steps.
-const ROOM: usize = 55400;
-
 // More than the longest record, of 66,069 bytes: whatever is left of a piece, there is room for more.
 const BUFFER: usize = 66112;
 
@@ -150,7 +147,7 @@ fn fail() {
 }
 
 fn main() {
-    let mut room = [0u8; ROOM];
+    let mut room = [0u8; script::ROOM];
     let mut buffer = [0u8; BUFFER];
     let mut out = [0u8; TEXT];
     match play_input(&mut room, &mut buffer) {

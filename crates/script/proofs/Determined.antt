@@ -1,5 +1,5 @@
 -- Each public call's contract allows one result only, and one content of what it is lent to change.
-use mathlib.Core.Path.{_≡_, sym, ap, _∙_}
+use mathlib.Core.Path.{_≡_, sym, _∙_}
 use denote.Ref.{now}
 use Rattle.list.proofs.Determinacy.{Determines, OneResult}
 use Rattle.script.proofs.records.step.Kinds as step

@@ -1,6 +1,6 @@
 -- A script in its room: the tree is a started one, every record leaves it well formed, and a listing is of the lists worked out afresh.
-use mathlib.Core.Path.{_≡_, refl, sym, ap, _∙_, subst}
-use mathlib.Core.Bool.{Bool, true, false, cond, _&&_}
+use mathlib.Core.Path.{_≡_, refl, sym, ap, _∙_}
+use mathlib.Core.Bool.{Bool, true, false, cond}
 use mathlib.Core.List.{List, [], _∷_}
 use mathlib.Core.Option.{some}
 use Prim.Native.Nat.{ℕ, zero, suc, _+_, _-_, _≤_, _<_}
@@ -19,7 +19,7 @@ use Rattle.tree.specs.Formed.{formed}
 use Rattle.tree.specs.Calls.{need, readable, short, startOk, startTo}
 use Rattle.tree.specs.History.{Call, afresh, remains}
 use Rattle.tree.specs.Replay.{Change, rules, shown}
-use Rattle.tree.specs.Played.{callTo, accepted, played}
+use Rattle.tree.specs.Played.{accepted, played}
 use Rattle.tree.proofs.Lays.{length-settings}
 use Rattle.tree.proofs.Demand3.{Reached, demand3, keeps}
 use Rattle.script.specs.declared.records.Found.{Found}

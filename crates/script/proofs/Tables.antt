@@ -8,7 +8,6 @@ use lib.Dec.{eqb}
 use borrow.Author.Tests.{ne-eqb}
 use Rattle.list.specs.Bytes.{le, part, guidAt}
 use Rattle.inherit.specs.Given.{Optional, lent}
-use Rattle.tree.specs.Held.{New}
 use Rattle.tree.specs.Calls.{list, mark, owners}
 use Rattle.tree.specs.History.{edit, undo}
 use Rattle.tree.specs.Replay.{add, alter}

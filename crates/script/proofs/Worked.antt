@@ -1,10 +1,9 @@
 -- The definitions, computed: records, numbers and texts, and document 01's own script with the whole text that it writes.
 use mathlib.Core.Path.{_≡_, refl, sym, ap, _∙_}
-use mathlib.Core.Bool.{true, false}
+use mathlib.Core.Bool.{true}
 use mathlib.Core.List.{List, [], _∷_, _++_, flatten}
 use mathlib.Core.Option.{Option, some}
-use Prim.Native.Nat.{ℕ, _+_, _*_, _≤_}
-use native.Mathlib.Omega.{arith}
+use Prim.Native.Nat.{ℕ, _+_}
 use lib.ListN.{drop, replicate}
 use Rattle.list.specs.Bytes.{le, spell, sameBytes, guidAt, part, putAt}
 use Rattle.list.specs.Identity.{sidLen, isSid, creator, placeholderOf, identityOf}
@@ -20,14 +19,13 @@ use Rattle.tree.specs.Room.{settingsFor}
 use Rattle.tree.specs.Formed.{placed}
 use Rattle.tree.specs.Work.{computed}
 use Rattle.tree.specs.Calls.{short, list, mark, owners, editAt, editBytes, nobody}
-use Rattle.tree.specs.History.{Call, edit, undo, bind, rest, replay, afresh, noted, unnoted, next, remains}
-use Rattle.tree.specs.Replay.{Change, add, alter, reads, fine, change, fromRoot, gather, work, rules, shown}
-use Rattle.script.specs.declared.records.Found.{Found}
+use Rattle.tree.specs.History.{edit, undo, bind, rest, replay, afresh, noted, unnoted, next, remains}
+use Rattle.tree.specs.Replay.{alter, reads, fine, change, fromRoot, gather, work, rules, shown}
 use Rattle.script.specs.declared.records.Found.the-variants.{Cut, Bad, Record}
 use Rattle.script.specs.Record.{nameEnd, listEnd, parentOf, sizeOf, formOk, asked, stepOf}
-use Rattle.script.specs.Fold.{past, carried, onStep, runBy, runOf, onCall, callsBy, callsOf}
+use Rattle.script.specs.Fold.{past, onStep, runBy, runOf, onCall, callsBy, callsOf}
 use Rattle.script.specs.Text.{digits, decimal, columnsBy, columns, line, lines, heading, listing, badLine}
-use Rattle.script.specs.Play.{mapping, headOk, Ending, Listed, BadAt, endOf, fresh, endingOf, textOf}
+use Rattle.script.specs.Play.{mapping, headOk, Listed, endOf, fresh, endingOf, textOf}
 use Rattle.script.proofs.Plays.{listed-afresh}
 
 -- ---- records

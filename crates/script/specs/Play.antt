@@ -8,8 +8,7 @@ use Rattle.list.specs.Bytes.{le}
 use Rattle.inherit.specs.declared.Mapping.{Mapping}
 use Rattle.inherit.specs.Given.{Optional, absent}
 use Rattle.tree.specs.declared.Answer.{Answer}
-use Rattle.tree.specs.declared.Answer.the-variants.{Done, Refused}
-use Rattle.tree.specs.Room.{objects}
+use Rattle.tree.specs.declared.Answer.the-variants.{Done}
 use Rattle.tree.specs.Formed.{formed}
 use Rattle.tree.specs.Calls.{Outcome, need, copied, startTo}
 use Rattle.tree.specs.Replay.{shown}

@@ -1,7 +1,7 @@
 -- The records of a script, as document 01 lists them. A record is its bytes from its number on; bytes that are not there count as 0.
 use Prim.Native.Nat.{ℕ, _+_}
 use mathlib.Core.List.{List}
-use mathlib.Core.Bool.{Bool, true, false, cond, not, _&&_}
+use mathlib.Core.Bool.{Bool, true, cond, not, _&&_}
 use lib.ListN.{length, getD, drop}
 use lib.Dec.{eqb, leb}
 use Rattle.list.specs.Bytes.{le, part, guidAt}

@@ -19,14 +19,8 @@ pub use runs::feed;
 pub use texts::bad_at;
 pub use texts::listing;
 
-// How long the longest record is: 24 bytes, an owner and a group of 255 each, a list of 65,535.
-pub const LONGEST_RECORD: usize = 66069;
-
 // How many bytes of room a script's tree needs: 16 objects and 16 steps.
 pub const ROOM: usize = 55400;
-
-// Where the records begin.
-pub const HEAD: usize = 5;
 
 // The script's head: `AXS` and the 16-bit version 1.
 pub fn head_ok(script: &[u8]) -> bool
@@ -47,7 +41,7 @@ pub fn head_ok(script: &[u8]) -> bool
     half_in(script, 3) == 1
 }
 
-// Starts a script's tree: limits 16 and 16, rule 2, document 01's mapping, no default.
+// Starts a script's tree: limits 16 and 16, document 01's mapping, rule 2 and no default.
 pub fn begin(room: &mut [u8]) -> Answer
     ensures { λ a. ⌜ (a ≡ beginTo (now (room .entry)) .answer) × (now (room .exit) ≡ beginTo (now (room .entry)) .bytes) ⌝ }
 {
@@ -88,6 +82,6 @@ fn play_in(room: &mut [u8], script: &[u8], out: &mut [u8]) -> Answer
 pub fn play(script: &[u8], out: &mut [u8]) -> Answer
     ensures { λ a. ⌜ (a ≡ playTo (now (script .entry)) (now (out .entry)) .answer) × (now (out .exit) ≡ playTo (now (script .entry)) (now (out .entry)) .bytes) ⌝ }
 {
-    let mut room = [0u8; 55400];
+    let mut room = [0u8; ROOM];
     play_in(&mut room, script, out)
 }

@@ -1,39 +1,27 @@
+-- Each return is a line of the table of calls. Assumes nothing.
 use borrow.Author.Needs.{needs}
-use Rattle.script.proofs.Tables.{asked-1, asked-2, asked-3, asked-4, asked-5}
+use native.Mathlib.Omega.{arith}
+use mathlib.Core.Path.{sym, ap, ap₂, _∙_}
+use mathlib.Core.Bool.{Bool}
+use Prim.Native.Nat.{ℕ}
+use denote.Ref.{now}
 use Rattle.tree.specs.Played.{callTo}
 use Rattle.tree.specs.Replay.{Change}
 use Rattle.tree.specs.History.{Call}
 use Rattle.tree.specs.Calls.{mark, alterTo}
-use mathlib.Core.Bool.{Bool}
-use mathlib.Core.Path.{sym, ap, ap₂, _∙_}
-use Prim.Native.Nat.{ℕ}
-use denote.Ref.{now}
-use native.Mathlib.Omega.{arith}
+use Rattle.script.proofs.Tables.{asked-1, asked-2, asked-3, asked-4, asked-5}
 use Rattle.script.proofs.records.carry_out.Statement.{statement}
 use Rattle.script.proofs.records.carry_out.Tie as tie
-use Rattle.script.proofs.records.carry_out.Reads as reads
-use Rattle.script.proofs.records.carry_out.Lts as lts
-use Rattle.list.proofs.byte_in.Reads as byte-in-reads
-use Rattle.script.proofs.records.add.Reads as add-reads
-use Rattle.script.proofs.records.flag.Reads as flag-reads
-use Rattle.script.proofs.records.set_list.Reads as set-list-reads
-use Rattle.script.proofs.records.set_owner.Reads as set-owner-reads
-use Rattle.tree.proofs.set_mark.Reads as set-mark-reads
-use Rattle.tree.proofs.undo.Reads as undo-reads
 
--- src/records.rt:166:9
 byte-in-requires : tie.Need-byte-in-requires
 byte-in-requires c κs = search needs
 
--- src/records.rt:168:9
 add-requires : tie.Need-add-requires
 add-requires c κs = search needs
 
--- src/records.rt:168:9
 same-length : tie.Need-same-length
 same-length c = search needs
 
--- src/records.rt:168:9
 returns : tie.Need-returns
 unfolding callTo
 returns c =
@@ -43,15 +31,12 @@ returns c =
       c .before .before .add .ensures .1 ∙ ap (λ (q : Call Change). callTo q r .bytes) (sym e),
     )
 
--- src/records.rt:171:9
 set-list-requires : tie.Need-set-list-requires
 set-list-requires c κs = search needs
 
--- src/records.rt:171:9
 same-length-2 : tie.Need-same-length-2
 same-length-2 c = search needs
 
--- src/records.rt:171:9
 returns-2 : tie.Need-returns-2
 unfolding callTo
 returns-2 c =
@@ -61,27 +46,21 @@ returns-2 c =
       c .before .before .set-list .ensures .1 ∙ ap (λ (q : Call Change). callTo q r .bytes) (sym e),
     )
 
--- src/records.rt:174:37
 byte-in-requires-2 : tie.Need-byte-in-requires-2
 byte-in-requires-2 c κs = search needs
 
--- src/records.rt:174:37
 cast-set-mark : tie.Need-cast-set-mark
 cast-set-mark c = search needs
 
--- src/records.rt:174:59
 flag-requires : tie.Need-flag-requires
 flag-requires c κs = search needs
 
--- src/records.rt:174:9
 set-mark-requires : tie.Need-set-mark-requires
 set-mark-requires c κs = search needs
 
--- src/records.rt:174:9
 same-length-3 : tie.Need-same-length-3
 same-length-3 c = search needs
 
--- src/records.rt:174:9
 returns-3 : tie.Need-returns-3
 unfolding callTo
 returns-3 c =
@@ -94,15 +73,12 @@ returns-3 c =
       c .before .before .set-mark .ensures .1 ∙ ap₂ (λ (n : ℕ) (o : Bool). alterTo n (mark o) r .bytes) i m ∙ ap (λ (q : Call Change). callTo q r .bytes) (sym e),
     )
 
--- src/records.rt:177:9
 set-owner-requires : tie.Need-set-owner-requires
 set-owner-requires c κs = search needs
 
--- src/records.rt:177:9
 same-length-4 : tie.Need-same-length-4
 same-length-4 c = search needs
 
--- src/records.rt:177:9
 returns-4 : tie.Need-returns-4
 unfolding callTo
 returns-4 c =
@@ -112,15 +88,12 @@ returns-4 c =
       c .before .before .set-owner .ensures .1 ∙ ap (λ (q : Call Change). callTo q r .bytes) (sym e),
     )
 
--- src/records.rt:179:5
 undo-requires : tie.Need-undo-requires
 undo-requires c κs = search needs
 
--- src/records.rt:163:1
 same-length-5 : tie.Need-same-length-5
 same-length-5 c = search needs
 
--- src/records.rt:163:1
 returns-5 : tie.Need-returns-5
 unfolding callTo
 returns-5 c =

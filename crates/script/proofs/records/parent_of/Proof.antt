@@ -1,17 +1,14 @@
+-- Both returns are cases of `parentOf`. Assumes nothing.
 use native.Mathlib.Omega.{arith}
 use borrow.Author.Tests.{eq-eqb, ne-eqb}
 use Rattle.script.specs.Record.{parentOf}
 use Rattle.script.proofs.records.parent_of.Statement.{statement}
 use Rattle.script.proofs.records.parent_of.Tie as tie
-use Rattle.script.proofs.records.parent_of.Reads as reads
-use Rattle.script.proofs.records.parent_of.Lts as lts
 
--- src/records.rt:116:9
 returns : tie.Need-returns
 unfolding parentOf
 returns c = simp (eq-eqb (c .before .args .b) 255 (omega arith))
 
--- src/records.rt:112:1
 returns-2 : tie.Need-returns-2
 unfolding parentOf
 returns-2 c = simp (ne-eqb (c .before .args .b) 255 (λ e. omega arith))

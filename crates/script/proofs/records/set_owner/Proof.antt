@@ -1,67 +1,49 @@
+-- The parts of record 4, as `tree::set_owner` takes them. Assumes nothing.
 use borrow.Author.Needs.{needs}
-use Rattle.script.proofs.Tables.{name-by}
-use Rattle.script.specs.Record.{nameIn}
 use mathlib.Core.Path.{refl, ap, _∙_}
 use Prim.Native.Nat.{ℕ}
 use denote.Ref.{now}
+use Rattle.script.specs.Record.{nameIn}
+use Rattle.script.proofs.Tables.{name-by}
 use Rattle.script.proofs.records.set_owner.Statement.{statement}
 use Rattle.script.proofs.records.set_owner.Tie as tie
-use Rattle.script.proofs.records.set_owner.Reads as reads
-use Rattle.script.proofs.records.set_owner.Lts as lts
-use Rattle.list.proofs.byte_in.Reads as byte-in-reads
-use Rattle.list.proofs.part_of.Reads as part-of-reads
-use Rattle.script.proofs.records.name_end.Reads as name-end-reads
-use Rattle.tree.proofs.set_owner.Reads as set-owner-reads
 
--- src/records.rt:153:9
 name-end-requires : tie.Need-name-end-requires
 name-end-requires c κs = search needs
 
--- src/records.rt:156:9
 byte-in-requires : tie.Need-byte-in-requires
 byte-in-requires c κs = search needs
 
--- src/records.rt:156:9
 cast-set-owner : tie.Need-cast-set-owner
 cast-set-owner c = search needs
 
--- src/records.rt:157:23
 byte-in-requires-2 : tie.Need-byte-in-requires-2
 byte-in-requires-2 c κs = search needs
 
--- src/records.rt:157:23
 cast-part-of : tie.Need-cast-part-of
 cast-part-of c = search needs
 
--- src/records.rt:157:9
 part-of-requires : tie.Need-part-of-requires
 part-of-requires c κs = search needs
 
--- src/records.rt:158:20
 add-part-of : tie.Need-add-part-of
 add-part-of c = search needs
 
--- src/records.rt:158:34
 byte-in-requires-3 : tie.Need-byte-in-requires-3
 byte-in-requires-3 c κs = search needs
 
--- src/records.rt:158:34
 cast-part-of-2 : tie.Need-cast-part-of-2
 cast-part-of-2 c = search needs
 
--- src/records.rt:158:9
 part-of-requires-2 : tie.Need-part-of-requires-2
 part-of-requires-2 c κs = search needs
 
--- src/records.rt:154:5
 set-owner-requires : tie.Need-set-owner-requires
 set-owner-requires c κs = search needs
 
--- src/records.rt:150:1
 same-length : tie.Need-same-length
 same-length c = search needs
 
--- src/records.rt:150:1
 returns : tie.Need-returns
 returns c =
     let t = now (c .before .before .before .before .before .before .before .before .before .before .before .before .args .t) in

@@ -1,37 +1,29 @@
+-- Each return is a case of `stepOf`. Assumes nothing.
 use borrow.Author.Needs.{needs}
-use Rattle.script.specs.declared.records.Found.the-variants.{Record}
-use Rattle.script.specs.Record.{sizeOf, stepOf}
-use borrow.Author.Tests.{le-leb, lt-leb, not-true, not-false}
-use lib.ListN.{length}
+use native.Mathlib.Omega.{arith}
 use mathlib.Core.Path.{ap, sym, _∙_}
 use denote.Ref.{now}
-use native.Mathlib.Omega.{arith}
+use lib.ListN.{length}
+use borrow.Author.Tests.{le-leb, lt-leb, not-true, not-false}
+use Rattle.script.specs.declared.records.Found.the-variants.{Record}
+use Rattle.script.specs.Record.{sizeOf, stepOf}
 use Rattle.script.proofs.records.step.Statement.{statement}
 use Rattle.script.proofs.records.step.Tie as tie
-use Rattle.script.proofs.records.step.Reads as reads
-use Rattle.script.proofs.records.step.Lts as lts
-use Rattle.script.proofs.records.form_ok.Reads as form-ok-reads
-use Rattle.script.proofs.records.size.Reads as size-reads
 
--- src/records.rt:99:9
 size-requires : tie.Need-size-requires
 size-requires c κs = search needs
 
--- src/records.rt:101:9
 returns : tie.Need-returns
 unfolding stepOf
 returns c = let t = now (c .before .before .before .args .t) in simp (lt-leb (sizeOf t) (length t) (omega arith))
 
--- src/records.rt:103:9
 form-ok-requires : tie.Need-form-ok-requires
 form-ok-requires c κs = search needs
 
--- src/records.rt:104:9
 returns-2 : tie.Need-returns-2
 unfolding stepOf
 returns-2 c = let t = now (c .before .before .before .before .before .args .t) in simp (le-leb (sizeOf t) (length t) (omega arith), sym (c .before .form-ok .ensures) ∙ not-true _ (c .if2 .taken))
 
--- src/records.rt:96:1
 returns-3 : tie.Need-returns-3
 unfolding stepOf
 returns-3 c = let t = now (c .before .before .before .before .before .args .t) in simp (le-leb (sizeOf t) (length t) (omega arith), sym (c .before .form-ok .ensures) ∙ not-false _ (c .if2 .left)) (ap Record (c .before .before .before .size .ensures))
