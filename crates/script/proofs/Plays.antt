@@ -4,11 +4,13 @@ use mathlib.Core.Bool.{Bool, true, false, cond}
 use mathlib.Core.List.{List, [], _∷_}
 use mathlib.Core.Option.{some}
 use Prim.Native.Nat.{ℕ, zero, suc, _+_, _-_, _≤_, _<_}
+use native.Mathlib.Nat.{zero-add}
 use native.Mathlib.Omega.{arith}
 use lib.ListN.{length, take, drop, replicate, length-append, length-drop, length-replicate}
 use lib.Seq.{take-all}
 use lib.Dec.{eqb, leb}
 use borrow.Author.Tests.{leb-true, eq-eqb, ne-eqb}
+use Rattle.list.proofs.Places.{split}
 use Rattle.list.proofs.Tests.{both-true}
 use Rattle.list.proofs.Writes.{front-all}
 use Rattle.inherit.specs.Given.{Optional, absent}
@@ -25,9 +27,9 @@ use Rattle.tree.proofs.Demand3.{Reached, demand3, keeps}
 use Rattle.script.specs.declared.records.Found.{Found}
 use Rattle.script.specs.declared.records.Found.the-variants.{Cut, Bad, Record}
 use Rattle.script.specs.Record.{asked, stepOf}
-use Rattle.script.specs.Fold.{Run, past, carried, onStep, runBy, runOf, onCall, callsBy, callsOf}
-use Rattle.script.proofs.Folds.{run-used}
-use Rattle.script.specs.Play.{mapping, beginTo, fresh, Ending, Listed, BadAt, headOk, endOf, endingOf, written, listingTo, playTo}
+use Rattle.script.specs.Fold.{Run, past, carried, onStep, runBy, runOf, onCall, callsBy, callsOf, ahead, inPieces, joined}
+use Rattle.script.proofs.Folds.{run-used, pieces-same}
+use Rattle.script.specs.Play.{mapping, beginTo, fresh, Ending, Listed, BadAt, headOk, endOf, endingOf, endOfPieces, written, listingTo, playTo}
 
 -- ---- the room
 
@@ -149,6 +151,26 @@ module _ (s : List ℕ) (used : ℕ) (room : List ℕ) (x : Ran s used room) whe
         let q : 5 + used ≡ length s = omega (arith, ran-within) in
         let f : formed room ≡ true = rw (x .rooms) (run-formed (drop 5 s) fresh fresh-formed) in
         plays s (Listed (shown room .lists)) out a done (rw (x .head, ← x .bytes, ← x .rooms, eq-eqb (5 + used) (length s) q) refl) (rw f at w)
+
+-- ---- a script in pieces
+
+ends-by : (n used : ℕ) (t r : List ℕ) (b : Bool) → n ≡ 5 + length t → used ≤ length t
+    → endOfPieces (ahead 0 t (record { used = used; bad = b; room = r })) ≡ endOf n (record { used = used; bad = b; room = r })
+unfolding endOfPieces ahead endOf
+ends-by n used t r b e h =
+    split (length t) used
+    (λ l. rw (eq-eqb (length (drop used t)) 0 (rw length-drop (omega arith)), eq-eqb (5 + used) n (omega arith)) refl)
+    (λ l. rw (ne-eqb (length (drop used t)) 0 (rw length-drop (λ q. omega arith)), ne-eqb (5 + used) n (λ q. omega arith)) (ap (λ (k : ℕ). BadAt (5 + k)) (zero-add used)))
+
+-- however its records are cut into pieces, a script ends as it does whole
+pub pieces-end : (s : List ℕ) (ps : List (List ℕ)) → headOk s ≡ true → joined ps ≡ drop 5 s
+    → endOfPieces (inPieces (record { at = 0; left = []; bad = false; room = fresh }) ps) ≡ endingOf s
+unfolding endingOf
+pieces-end s ps h e =
+    let f = runOf (drop 5 s) fresh in
+    let l : length s ≡ 5 + length (drop 5 s) = omega (arith, length-drop 5 s, head-long s h) in
+    ap endOfPieces (pieces-same ps fresh)
+    ∙ rw (e, h) (ends-by (length s) (f .used) (drop 5 s) (f .room) (f .bad) l (run-used (drop 5 s) fresh))
 
 -- ---- the listing
 

@@ -24,22 +24,6 @@ past n f = record { used = n + f .used; bad = f .bad; room = f .room }
 unfoldable pub carried : ℕ → List ℕ → List ℕ → List ℕ
 carried n t r = callTo (asked (take n t)) r .bytes
 
--- a record's length and what it leaves, where there is a whole one; and whether it is bad
-unfoldable pub lengthIf : Found → ℕ
-lengthIf Cut = 0
-lengthIf Bad = 0
-lengthIf (Record n) = n
-
-unfoldable pub roomIf : Found → List ℕ → List ℕ → List ℕ
-roomIf Cut t r = r
-roomIf Bad t r = r
-roomIf (Record n) t r = carried n t r
-
-unfoldable pub isBad : Found → Bool
-isBad Cut = false
-isBad Bad = true
-isBad (Record n) = false
-
 -- a run stops at a record that is cut or bad, and goes on after a whole one
 unfoldable pub onStep : Found → List ℕ → (ℕ → Run) → Run
 onStep Cut r next = record { used = 0; bad = false; room = r }
@@ -71,6 +55,7 @@ callsOf t = callsBy (suc (length t)) t []
 
 -- ---- a script's records handed over in pieces: what is left of one piece stands in front of the next
 
+-- where what is left begins, those bytes, whether they begin with a bad record, and the room
 pub record Stage : Type 0 where
   pub at : ℕ
   pub left : List ℕ
@@ -91,3 +76,21 @@ inPieces g (p ∷ ps) = inPieces (onPiece g p) ps
 unfoldable pub joined : List (List ℕ) → List ℕ
 joined [] = []
 joined (p ∷ ps) = p ++ joined ps
+
+-- ---- how the code goes on from record to record. Only private functions' contracts cite what follows
+
+-- a record's length and what it leaves, where there is a whole one; and whether it is bad
+unfoldable pub lengthIf : Found → ℕ
+lengthIf Cut = 0
+lengthIf Bad = 0
+lengthIf (Record n) = n
+
+unfoldable pub roomIf : Found → List ℕ → List ℕ → List ℕ
+roomIf Cut t r = r
+roomIf Bad t r = r
+roomIf (Record n) t r = carried n t r
+
+unfoldable pub isBad : Found → Bool
+isBad Cut = false
+isBad Bad = true
+isBad (Record n) = false

@@ -12,7 +12,7 @@ use Rattle.tree.specs.declared.Answer.the-variants.{Done}
 use Rattle.tree.specs.Formed.{formed}
 use Rattle.tree.specs.Calls.{Outcome, need, copied, startTo}
 use Rattle.tree.specs.Replay.{shown}
-use Rattle.script.specs.Fold.{Run, runOf}
+use Rattle.script.specs.Fold.{Run, runOf, Stage}
 use Rattle.script.specs.Text.{listing, badLine}
 
 -- the mapping of document 01's lists worked by hand
@@ -47,6 +47,10 @@ fresh = beginTo (replicate 55400 0) .bytes
 
 unfoldable pub endingOf : List ℕ → Ending
 endingOf s = cond (headOk s) (endOf (length s) (runOf (drop 5 s) fresh)) (BadAt 0)
+
+-- the same of a script whose records were handed over in pieces
+unfoldable pub endOfPieces : Stage → Ending
+endOfPieces g = cond (eqb (length (g .left)) 0) (Listed (shown (g .room) .lists)) (BadAt (5 + g .at))
 
 -- the text that a run writes
 unfoldable pub textOf : Ending → List ℕ
