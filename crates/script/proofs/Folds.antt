@@ -11,7 +11,7 @@ use Rattle.list.specs.Bytes.{Bytes}
 use Rattle.list.proofs.Little.{bytes-drop}
 use Rattle.list.proofs.Tests.{off}
 use Rattle.tree.specs.Played.{callTo}
-use Rattle.script.specs.Record.{asked, sizeOf, stepOf}
+use Rattle.script.specs.Record.{numberOf, asked, sizeOf, stepOf}
 use Rattle.script.specs.Fold.{Run, past, carried, onStep, runBy, runOf, Stage, ahead, onPiece, inPieces, joined}
 use Rattle.script.specs.declared.records.Found.{Found}
 use Rattle.script.specs.declared.records.Found.the-variants.{Cut, Bad, Record}
@@ -33,15 +33,15 @@ past-cond n false f g = refl
 
 -- ---- record by record
 
-on-same : (f : Found) (r : List ℕ) (g h : ℕ → Run) → ((n : ℕ) → f ≡ Record n → g n ≡ h n) → onStep f r g ≡ onStep f r h
+on-same : (f : Found) (r : List ℕ) (g h : ℕ → Run) → ((n k : ℕ) → f ≡ Record n k → g n ≡ h n) → onStep f r g ≡ onStep f r h
 unfolding onStep
 on-same Cut r g h e = refl
 on-same Bad r g h e = refl
-on-same (Record n) r g h e = ap (past n) (e n refl)
+on-same (Record n k) r g h e = ap (past n) (e n k refl)
 
 -- fewer bytes are left after a record
-shorter : (t : List ℕ) (n : ℕ) → stepOf t ≡ Record n → length (drop n t) < length t
-shorter t n e = let s = step-record t n e in rw length-drop (omega (arith, size-some t))
+shorter : (t : List ℕ) (n k : ℕ) → stepOf t ≡ Record n k → length (drop n t) < length t
+shorter t n k e = let s = step-record t n k e in rw length-drop (omega (arith, size-some t))
 
 -- how many records there may be doesn't count, if it is more than there are bytes
 run-by : (j k : ℕ) (t r : List ℕ) → length t < j → length t < k → runBy j t r ≡ runBy k t r
@@ -49,7 +49,7 @@ unfolding runBy
 run-by zero k t r a b = absurd (omega arith)
 run-by (suc j) zero t r a b = absurd (omega arith)
 run-by (suc j) (suc k) t r a b =
-    on-same (stepOf t) r _ _ (λ n e. let l = shorter t n e in run-by j k (drop n t) (carried n t r) (omega arith) (omega arith))
+    on-same (stepOf t) r _ _ (λ n q e. let l = shorter t n q e in run-by j k (drop n t) (carried n t r) (omega arith) (omega arith))
 
 module _ (t r : List ℕ) where
   pub run-stops : stepOf t ≡ Cut → runOf t r ≡ record { used = 0; bad = false; room = r }
@@ -60,10 +60,10 @@ module _ (t r : List ℕ) where
   unfolding runOf runBy onStep
   run-bad e = rw e
 
-  pub run-record : (n : ℕ) → stepOf t ≡ Record n → runOf t r ≡ past n (runOf (drop n t) (carried n t r))
+  pub run-record : (n k : ℕ) → stepOf t ≡ Record n k → runOf t r ≡ past n (runOf (drop n t) (carried n t r))
   unfolding runOf runBy onStep
-  run-record n e =
-      let l = shorter t n e in
+  run-record n k e =
+      let l = shorter t n k e in
       rw e (ap (past n) (run-by (length t) (suc (length (drop n t))) (drop n t) (carried n t r) (omega arith) (omega arith)))
 
 pub run-none : (r : List ℕ) → runOf [] r ≡ record { used = 0; bad = false; room = r }
@@ -71,14 +71,14 @@ run-none r = run-stops [] r (step-short [] (size-some []))
 
 -- what holds where a run stops, and before a record if it holds behind, holds of every run
 pub by-records {ℓ} : (P : List ℕ → List ℕ → Type ℓ) → ((t r : List ℕ) → stepOf t ≡ Cut → P t r) → ((t r : List ℕ) → stepOf t ≡ Bad → P t r)
-    → ((t r : List ℕ) (n : ℕ) → stepOf t ≡ Record n → P (drop n t) (carried n t r) → P t r) → (t r : List ℕ) → P t r
+    → ((t r : List ℕ) (n k : ℕ) → stepOf t ≡ Record n k → P (drop n t) (carried n t r) → P t r) → (t r : List ℕ) → P t r
 by-records P cut bad whole t r = within (suc (length t)) t r (omega arith)
   where
     within : (k : ℕ) (t r : List ℕ) → length t < k → P t r
     within zero t r h = absurd (omega arith)
     within (suc k) t r h =
         by-step t (λ e l. cut t r e) (λ e l. bad t r e)
-        (λ e l. let s = shorter t (sizeOf t) e in whole t r (sizeOf t) e (within k (drop (sizeOf t) t) (carried (sizeOf t) t r) (omega arith)))
+        (λ e l. let s = shorter t (sizeOf t) (numberOf t) e in whole t r (sizeOf t) (numberOf t) e (within k (drop (sizeOf t) t) (carried (sizeOf t) t r) (omega arith)))
 
 pub run-used : (t r : List ℕ) → runOf t r .used ≤ length t
 unfolding past
@@ -86,7 +86,7 @@ run-used =
     by-records (λ t r. runOf t r .used ≤ length t)
     (λ t r e. rw (run-stops t r e) (omega arith))
     (λ t r e. rw (run-bad t r e) (omega arith))
-    (λ t r n e h. rw (run-record t r n e) (omega (arith, length-drop n t, step-record t n e .1)))
+    (λ t r n k e h. rw (run-record t r n k e) (omega (arith, length-drop n t, step-record t n k e .1)))
 
 -- a buffer that holds the longest record has room for more
 pub left-short : (t r : List ℕ) → Bytes t → runOf t r .bad ≡ false → length t - runOf t r .used < 66069
@@ -95,9 +95,9 @@ left-short =
     by-records (λ t r. Bytes t → runOf t r .bad ≡ false → length t - runOf t r .used < 66069)
     (λ t r e b f. rw (run-stops t r e) (omega (arith, step-cut t e, size-most t b)))
     (λ t r e b f. absurd (off (ap (λ (g : Run). g .bad) (run-bad t r e)) f))
-    (λ t r n e h b f.
-    let g : runOf (drop n t) (carried n t r) .bad ≡ false = sym (ap (λ (g : Run). g .bad) (run-record t r n e)) ∙ f in
-    rw (run-record t r n e) (omega (arith, length-drop n t, h (bytes-drop n t b) g)))
+    (λ t r n k e h b f.
+    let g : runOf (drop n t) (carried n t r) .bad ≡ false = sym (ap (λ (g : Run). g .bad) (run-record t r n k e)) ∙ f in
+    rw (run-record t r n k e) (omega (arith, length-drop n t, h (bytes-drop n t b) g)))
 
 -- a bad record has bytes
 pub bad-short : (t r : List ℕ) → runOf t r .bad ≡ true → runOf t r .used < length t
@@ -106,9 +106,9 @@ bad-short =
     by-records (λ t r. runOf t r .bad ≡ true → runOf t r .used < length t)
     (λ t r e f. absurd (off f (ap (λ (g : Run). g .bad) (run-stops t r e))))
     (λ t r e f. rw (run-bad t r e) (omega (arith, step-bad t e, size-some t)))
-    (λ t r n e h f.
-    let g : runOf (drop n t) (carried n t r) .bad ≡ true = sym (ap (λ (g : Run). g .bad) (run-record t r n e)) ∙ f in
-    rw (run-record t r n e) (omega (arith, length-drop n t, h g)))
+    (λ t r n k e h f.
+    let g : runOf (drop n t) (carried n t r) .bad ≡ true = sym (ap (λ (g : Run). g .bad) (run-record t r n k e)) ∙ f in
+    rw (run-record t r n k e) (omega (arith, length-drop n t, h g)))
 
 -- ---- bytes that come later
 
@@ -136,13 +136,13 @@ run-append t u r =
     (λ t r e.
     let q = step-append t u (λ c. never (cc)) ∙ e in
     rw (run-bad t r e) (run-bad (t ++ u) r q))
-    (λ t r n e h.
+    (λ t r n k e h.
     let q = step-append t u (λ c. never (cc)) ∙ e in
-    let l = step-record t n e .1 in
-    run-record (t ++ u) r n q
+    let l = step-record t n k e .1 in
+    run-record (t ++ u) r n k q
     ∙ rw (drop-append-le n t u l, carried-append n t u r l) (ap (past n) h)
     ∙ goes-past n t u (runOf (drop n t) (carried n t r))
-    ∙ ap (goes-on t u) (sym (run-record t r n e)))
+    ∙ ap (goes-on t u) (sym (run-record t r n k e)))
     t r
 
 -- ---- a script in pieces

@@ -69,7 +69,7 @@ step-formed : (x : Found) (r : List ℕ) (next : ℕ → Run) → formed r ≡ t
 unfolding onStep past
 step-formed Cut r next h f = h
 step-formed Bad r next h f = h
-step-formed (Record n) r next h f = f n
+step-formed (Record n k) r next h f = f n
 
 formed-by : (more : ℕ) (t r : List ℕ) → formed r ≡ true → formed (runBy more t r .room) ≡ true
 unfolding runBy carried
@@ -89,7 +89,7 @@ step-played : (x : Found) (r₀ : List ℕ) (qs : List (Call Change)) (next : �
 unfolding onStep onCall past
 step-played Cut r₀ qs next calls f = refl
 step-played Bad r₀ qs next calls f = refl
-step-played (Record n) r₀ qs next calls f = f n
+step-played (Record n k) r₀ qs next calls f = f n
 
 played-by : (more : ℕ) (t r₀ : List ℕ) (qs : List (Call Change)) → runBy more t (played qs r₀) .room ≡ played (callsBy more t qs) r₀
 unfolding runBy callsBy carried played

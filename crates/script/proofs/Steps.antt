@@ -90,7 +90,7 @@ never z = omega arith
 module _ (t : List ℕ) where
   -- a record is one of the three, and what that says of its length
   pub by-step {ℓ} : {X : Type ℓ} → (stepOf t ≡ Cut → length t < sizeOf t → X) → (stepOf t ≡ Bad → sizeOf t ≤ length t → X)
-      → (stepOf t ≡ Record (sizeOf t) → sizeOf t ≤ length t → X) → X
+      → (stepOf t ≡ Record (sizeOf t) (numberOf t) → sizeOf t ≤ length t → X) → X
   unfolding stepOf
   by-step cut bad whole =
       split (sizeOf t) (length t)
@@ -100,8 +100,8 @@ module _ (t : List ℕ) where
       (λ f. bad (rw (le-leb (sizeOf t) (length t) h, f)) h))
       (λ h. cut (rw (lt-leb (sizeOf t) (length t) h)) h)
 
-  pub step-record : (n : ℕ) → stepOf t ≡ Record n → (n ≡ sizeOf t) × (n ≤ length t)
-  step-record n e =
+  pub step-record : (n k : ℕ) → stepOf t ≡ Record n k → (n ≡ sizeOf t) × (n ≤ length t)
+  step-record n k e =
       by-step (λ f h. absurd (never (cc))) (λ f h. absurd (never (cc))) (λ f h. let q : n ≡ sizeOf t = cc in (q, omega arith))
 
   pub step-bad : stepOf t ≡ Bad → sizeOf t ≤ length t
@@ -161,5 +161,5 @@ step-append t u h =
     split (sizeOf t) (length t)
     (λ l.
     let m : sizeOf t ≤ length (t ++ u) = simp length-append (omega arith) in
-    rw (size-append t u l, form-append t u l, le-leb (sizeOf t) (length (t ++ u)) m, le-leb (sizeOf t) (length t) l))
+    rw (size-append t u l, form-append t u l, number-append t u l, le-leb (sizeOf t) (length (t ++ u)) m, le-leb (sizeOf t) (length t) l))
     (λ l. absurd (h (step-short t l)))

@@ -33,15 +33,15 @@ use Rattle.script.proofs.Plays.{listed-afresh}
 -- an empty slice is cut, and so is every start of a record; undo is its number alone; 6 and 0 are unknown
 pub steps-worked :
     (stepOf [] ≡ Cut)
-    × ((stepOf (5 ∷ []) ≡ Record 1)
+    × ((stepOf (5 ∷ []) ≡ Record 1 5)
     × ((stepOf (6 ∷ []) ≡ Bad)
     × ((stepOf (0 ∷ []) ≡ Bad)
     × ((stepOf (3 ∷ 0 ∷ []) ≡ Cut)
-    × ((stepOf (3 ∷ 9 ∷ 1 ∷ 5 ∷ []) ≡ Record 3)
+    × ((stepOf (3 ∷ 9 ∷ 1 ∷ 5 ∷ []) ≡ Record 3 3)
     × ((stepOf (3 ∷ 9 ∷ 2 ∷ []) ≡ Bad)
-    × ((stepOf (2 ∷ 0 ∷ 0 ∷ 0 ∷ []) ≡ Record 4)
+    × ((stepOf (2 ∷ 0 ∷ 0 ∷ 0 ∷ []) ≡ Record 4 2)
     × ((stepOf (2 ∷ 0 ∷ 1 ∷ 0 ∷ []) ≡ Cut)
-    × (stepOf (4 ∷ 0 ∷ 0 ∷ 2 ∷ 7 ∷ 7 ∷ 1 ∷ []) ≡ Record 6)))))))))
+    × (stepOf (4 ∷ 0 ∷ 0 ∷ 2 ∷ 7 ∷ 7 ∷ 1 ∷ []) ≡ Record 6 4)))))))))
 unfolding le nameEnd listEnd sizeOf formOk stepOf
 steps-worked = (refl, (refl, (refl, (refl, (refl, (refl, (refl, (refl, (refl, refl)))))))))
 

@@ -28,7 +28,7 @@ carried n t r = callTo (asked (take n t)) r .bytes
 unfoldable pub onStep : Found → List ℕ → (ℕ → Run) → Run
 onStep Cut r next = record { used = 0; bad = false; room = r }
 onStep Bad r next = record { used = 0; bad = true; room = r }
-onStep (Record n) r next = past n (next n)
+onStep (Record n k) r next = past n (next n)
 
 -- at most `more` records
 unfoldable pub runBy : ℕ → List ℕ → List ℕ → Run
@@ -44,7 +44,7 @@ runOf t r = runBy (suc (length t)) t r
 unfoldable pub onCall : Found → List (Call Change) → (ℕ → List (Call Change)) → List (Call Change)
 onCall Cut qs next = qs
 onCall Bad qs next = qs
-onCall (Record n) qs next = next n
+onCall (Record n k) qs next = next n
 
 unfoldable pub callsBy : ℕ → List ℕ → List (Call Change) → List (Call Change)
 callsBy zero t qs = qs
@@ -83,14 +83,14 @@ joined (p ∷ ps) = p ++ joined ps
 unfoldable pub lengthIf : Found → ℕ
 lengthIf Cut = 0
 lengthIf Bad = 0
-lengthIf (Record n) = n
+lengthIf (Record n k) = n
 
 unfoldable pub roomIf : Found → List ℕ → List ℕ → List ℕ
 roomIf Cut t r = r
 roomIf Bad t r = r
-roomIf (Record n) t r = carried n t r
+roomIf (Record n k) t r = carried n t r
 
 unfoldable pub isBad : Found → Bool
 isBad Cut = false
 isBad Bad = true
-isBad (Record n) = false
+isBad (Record n k) = false

@@ -90,6 +90,6 @@ asked t =
     (cond (eqb (numberOf t) 4) (edit (alter (getD t 1 0) (owners (nameIn 2 t) (nameIn (nameEnd 2 t) t))))
     undo)))
 
--- the record at the front of t: cut where bytes of it are missing, bad by its form, else its length
+-- the record at the front of t: cut where bytes of it are missing, bad by its form, else its length and its number
 unfoldable pub stepOf : List ℕ → Found
-stepOf t = cond (leb (sizeOf t) (length t)) (cond (formOk t) (Record (sizeOf t)) Bad) Cut
+stepOf t = cond (leb (sizeOf t) (length t)) (cond (formOk t) (Record (sizeOf t) (numberOf t)) Bad) Cut

@@ -11,11 +11,12 @@ use list::half_in;
 use list::part_of;
 use tree::Answer;
 
-// A record at the front of a slice: some of its bytes are missing, its form is bad, or it is whole and so many bytes long.
+// A record at the front of a slice: some of its bytes are missing, its form is bad, or it is whole: how many bytes it has, and what it
+// asks by document 01's number (1 add, 2 set list, 3 mark, 4 owner and group, 5 undo).
 pub enum Found {
     Cut,
     Bad,
-    Record { length: usize },
+    Record { length: usize, asks: u8 },
 }
 
 // Where an owner or a group ends, whose length byte is at `at`.
@@ -101,7 +102,10 @@ pub fn step(t: &[u8]) -> Found
     if !form_ok(t) {
         return Found::Bad;
     }
-    Found::Record { length }
+    Found::Record {
+        length,
+        asks: byte_in(t, 0),
+    }
 }
 
 // The parent byte as tree::add takes it.

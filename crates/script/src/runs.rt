@@ -30,7 +30,7 @@ fn next(room: &mut [u8], t: &[u8]) -> usize
     ensures { λ r. ⌜ (r ≡ lengthIf (stepOf (now (t .entry)))) × (now (room .exit) ≡ roomIf (stepOf (now (t .entry))) (now (t .entry)) (now (room .entry))) ⌝ }
 {
     match step(t) {
-        Found::Record { length } => past(room, t, length),
+        Found::Record { length, asks } => past(room, t, length),
         Found::Cut => 0,
         Found::Bad => 0,
     }
@@ -42,7 +42,7 @@ fn is_bad(t: &[u8]) -> bool
     match step(t) {
         Found::Bad => true,
         Found::Cut => false,
-        Found::Record { length } => false,
+        Found::Record { length, asks } => false,
     }
 }
 

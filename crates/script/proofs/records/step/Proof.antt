@@ -1,7 +1,7 @@
 -- Each return is a case of `stepOf`. Assumes nothing.
 use borrow.Author.Needs.{needs}
 use native.Mathlib.Omega.{arith}
-use mathlib.Core.Path.{ap, sym, _∙_}
+use mathlib.Core.Path.{sym, ap₂, _∙_}
 use denote.Ref.{now}
 use lib.ListN.{length}
 use borrow.Author.Tests.{le-leb, lt-leb, not-true, not-false}
@@ -24,9 +24,15 @@ returns-2 : tie.Need-returns-2
 unfolding stepOf
 returns-2 c = let t = now (c .before .before .before .before .before .args .t) in simp (le-leb (sizeOf t) (length t) (omega arith), sym (c .before .form-ok .ensures) ∙ not-true _ (c .if2 .taken))
 
+byte-in-requires : tie.Need-byte-in-requires
+byte-in-requires c κs = search needs
+
 returns-3 : tie.Need-returns-3
 unfolding stepOf
-returns-3 c = let t = now (c .before .before .before .before .before .args .t) in simp (le-leb (sizeOf t) (length t) (omega arith), sym (c .before .form-ok .ensures) ∙ not-false _ (c .if2 .left)) (ap Record (c .before .before .before .size .ensures))
+returns-3 c =
+    let t = now (c .before .before .before .before .before .before .args .t) in
+    simp (le-leb (sizeOf t) (length t) (omega arith), sym (c .before .before .form-ok .ensures) ∙ not-false _ (c .before .if2 .left))
+    (ap₂ Record (c .before .before .before .before .size .ensures) (c .byte-in .ensures))
 
 pub step-spec : {M : Type 1} → statement M
-step-spec = tie.close (tie.spec size-requires returns form-ok-requires returns-2 returns-3)
+step-spec = tie.close (tie.spec size-requires returns form-ok-requires returns-2 byte-in-requires returns-3)
