@@ -4,8 +4,9 @@
 # make lib      libpipeteasel.a, for C and whatever calls C (include/pipeteasel.h)
 # make compare  the C library and axs against the independent second program: CASES fresh cases, TREES sequences, SCRIPTS scripts
 #               and PIPED scripts handed to axs in pieces, all from SEED
+# make hostile  CALLS calls of the C library with hostile bytes between guard pages, and some under valgrind where it is there
 # make cases    the stored cases and their answers anew, both by the second program
-# make bench    instructions by callgrind, and a full tree's time (not a test)
+# make bench    the table of docs/BENCH.md: instructions and times, library and second program (not a test)
 
 SCRIPT ?= examples/document.axs
 CASES ?= 100000
@@ -13,10 +14,11 @@ TREES ?= 10000
 SCRIPTS ?= 20000
 PIPED ?= 1000
 SEED ?= 1
+CALLS ?= 1000000
 CARGO = cargo build --quiet --release --offline --target-dir target/cargo
 SECOND = target/cargo/release/second
 
-.PHONY: play axs examples test lib second compare cases bench
+.PHONY: play axs examples test lib second compare hostile cases bench
 
 play: axs
 	@target/bin/axs <$(SCRIPT)
@@ -48,6 +50,14 @@ compare: lib axs
 	target/cargo/release/compare script --cases $(SCRIPTS) --seed $(SEED)
 	target/cargo/release/compare program target/bin/axs --cases $(PIPED) --seed $(SEED)
 
+# the sanitizers watch the C side; guard pages and valgrind watch the library
+HOSTILE = gcc -std=c99 -Wall -Wextra -Werror -pedantic -D_DEFAULT_SOURCE -O1 -g -Iinclude hostile/*.c -L. -lpipeteasel
+hostile: lib
+	$(HOSTILE) -fsanitize=address,undefined -fno-sanitize-recover=all -o target/hostile
+	target/hostile $(CALLS) $(SEED)
+	$(HOSTILE) -o target/hostile_plain
+	if command -v valgrind >/dev/null; then valgrind --error-exitcode=1 -q target/hostile_plain 3000 $(SEED) | tail -n 1; fi
+
 cases: second
 	$(SECOND) cases list examples/lists.txt > crates/vectors_list/stdin
 	$(SECOND) answer < crates/vectors_list/stdin > crates/vectors_list/stdout
@@ -58,6 +68,5 @@ cases: second
 	$(SECOND) cases script > crates/vectors_script/stdin
 	$(SECOND) answer < crates/vectors_script/stdin > crates/vectors_script/stdout
 
-# instructions for one reading and one computation, for the library and for the second program; one change on a full tree
 bench: lib
 	bash bench/run

@@ -16,7 +16,7 @@ use report::Report;
 
 const USAGE: &str = "usage: compare list|compute|tree|script --cases N --seed S
        compare program PATH --cases N --seed S
-       compare repeat library|second read|compute TIMES";
+       compare repeat library|second WHAT TIMES     (bench/run names what)";
 
 /// What is compared.
 enum Which {

@@ -1,61 +1,99 @@
-//! The same call many times over, so that an instruction counter can tell what one costs.
+//! The same call many times over, so that its instructions can be counted and
+//! its time taken. bench/run makes a table of both.
 
-use std::hint::black_box;
+mod computing;
+mod lists;
+mod playing;
+mod reading;
+mod tree;
 
-use crate::capi::{self, WhenEmpty};
-use second::computing::{self, Request, setting};
-use second::reading;
+use std::time::{Duration, Instant};
 
-const ENTRIES: usize = 16;
-const OWN_SID: [u8; 12] = [1, 1, 0, 0, 0, 0, 0, 5, 18, 0, 0, 0];
-
-/// Sixteen entries of 20 bytes, inherited by containers and other objects.
-fn parent() -> Vec<u8> {
-    let size = (8 + 20 * ENTRIES) as u16;
-    let mut list = vec![2, 0, size as u8, (size >> 8) as u8, ENTRIES as u8, 0, 0, 0];
-    for kind in 0..ENTRIES as u8 {
-        list.extend_from_slice(&[kind % 2, 3, 20, 0, 1, 0, 0, 0]);
-        list.extend_from_slice(&OWN_SID);
-    }
-    list
+/// Who is called.
+#[derive(Clone, Copy)]
+pub enum Side {
+    Library,
+    Second,
 }
 
-fn request() -> Request {
-    Request {
-        rule: 2,
-        settings: setting::PARENT | setting::CONTAINER | setting::AUTO_INHERIT,
-        mapping: [0x0012_0089, 0x0012_0116, 0x0012_00A0, 0x001F_01FF],
-        parent: parent(),
-        creator: Vec::new(),
-        default_list: Vec::new(),
-        types: Vec::new(),
-        owner: OWN_SID.to_vec(),
-        group: OWN_SID.to_vec(),
+/// One call, again and again on the same input.
+pub trait Repeated {
+    /// Brings the input back where a call has changed it; isn't measured.
+    fn bring_back(&mut self) {}
+    fn call(&mut self);
+    /// The answer of the last call, and all that it left.
+    fn outcome(&self) -> ([u32; 8], String);
+}
+
+/// A short call is measured a thousand at a time, and nothing has to be
+/// brought back in between.
+fn at_a_time(what: &str) -> usize {
+    match what.split_once('_') {
+        Some(("read" | "compute", _)) => 1_000,
+        _ => 1,
     }
 }
 
-/// Runs the call; `None` where there is no such call.
+/// Measures so many times and prints how many calls that were, and the
+/// shortest time of one in nanoseconds; `None` where there is no such call.
 pub fn run(who: &str, what: &str, times: usize) -> Option<()> {
-    let list = parent();
-    let request = request();
-    let mut row = [0; ENTRIES];
-    let mut room = [0; 1024];
-    let mut answer = [0; 8];
-    for _ in 0..times {
-        match (who, what) {
-            ("library", "read") => {
-                capi::read(black_box(&list), &mut row, &mut answer, WhenEmpty::Null)
-            }
-            ("second", "read") => answer = reading::read(black_box(&list), &mut row).eight(),
-            ("library", "compute") => {
-                capi::compute(black_box(&request), &mut room, &mut answer, WhenEmpty::Null)
-            }
-            ("second", "compute") => {
-                answer = computing::compute(black_box(&request), &mut room).eight()
-            }
-            _ => return None,
-        }
-        black_box((&row, &room, &answer));
+    let side = match who {
+        "library" => Side::Library,
+        "second" => Side::Second,
+        _ => return None,
+    };
+    check_that_both_agree(what)?;
+    let mut repeated = repeated(side, what)?;
+    let at_a_time = at_a_time(what);
+    let shortest = (0..times)
+        .map(|_| {
+            repeated.bring_back();
+            let before = Instant::now();
+            measured_calls(repeated.as_mut(), at_a_time);
+            before.elapsed()
+        })
+        .min()
+        .unwrap_or(Duration::ZERO);
+    let calls = times * at_a_time;
+    println!("{calls} {}", shortest.as_nanos() / at_a_time as u128);
+    Some(())
+}
+
+/// bench/run counts the instructions between entry and exit, by this name.
+#[inline(never)]
+fn measured_calls(repeated: &mut dyn Repeated, calls: usize) {
+    for _ in 0..calls {
+        repeated.call();
     }
+}
+
+/// On `read_N`, `compute_N`, `set_list_N`, `undo_N`, `full_tree` and `play_N`.
+fn repeated(side: Side, what: &str) -> Option<Box<dyn Repeated>> {
+    if what == "full_tree" {
+        return Some(Box::new(tree::mark_on_the_full_tree(side)));
+    }
+    let (name, number) = what.rsplit_once('_')?;
+    let number = number.parse().ok()?;
+    Some(match name {
+        "read" => Box::new(reading::Reading::of_entries(side, number)),
+        "compute" => Box::new(computing::Computing::of_entries(side, number)),
+        "set_list" => Box::new(tree::set_list(side, number)),
+        "undo" => Box::new(tree::undo(side, number)),
+        "play" => Box::new(playing::Playing::of_records(side, number)),
+        _ => return None,
+    })
+}
+
+/// Both accept the call and leave the same.
+fn check_that_both_agree(what: &str) -> Option<()> {
+    let [library, second] = [Side::Library, Side::Second].map(|side| {
+        let mut repeated = repeated(side, what)?;
+        repeated.bring_back();
+        repeated.call();
+        Some(repeated.outcome())
+    });
+    let (library, second) = (library?, second?);
+    assert_eq!(library.0[0], 0, "the call is accepted");
+    assert!(library == second, "both sides leave the same");
     Some(())
 }

@@ -1,0 +1,28 @@
+/* The cases: each lends what its call asks for, makes the call, checks the answer and takes everything back. */
+#ifndef CASES_H
+#define CASES_H
+
+#include <stddef.h>
+#include <stdint.h>
+
+#include "lend.h"
+
+/* The number that came, for the tally. */
+typedef uint32_t Case(void);
+
+Case case_identity, case_read, case_compute, case_play;
+Case case_room, case_start, case_add, case_set_list, case_set_mark, case_set_owner, case_undo;
+Case case_list, case_own, case_data, case_counts;
+
+/* In lists.c, for both: */
+void lend_answer(void);
+void check_places(uint32_t most_control);                   /* the answer's places but for their meaning */
+void check_list_refusal(uint32_t which, int list);          /* a refusal of 1 to 5 is the reader's of the same list */
+void check_reads(const uint8_t *list, const uint32_t *told); /* a list that was given out reads as done */
+size_t choose_out(const uint32_t *probed);                  /* a length to lend: none, short, exact or plenty */
+void check_probed(const uint32_t *probed, size_t out_len);  /* the same call with plenty of room told the truth */
+
+/* Room for anything that any call writes. */
+extern uint8_t plenty[LEND_MOST];
+
+#endif

@@ -1,0 +1,277 @@
+#include <stdio.h>
+#include <string.h>
+
+#include "pipeteasel.h"
+
+#include "lend.h"
+#include "make.h"
+#include "cases.h"
+
+uint8_t plenty[LEND_MOST];
+
+static uint16_t any_row[65536];
+
+void lend_answer(void)
+{
+    lend_filled(ANSWER, 32);
+    lent[ANSWER].may_change = 32;
+}
+
+void check_places(uint32_t most_control)
+{
+    const uint32_t *a = answer();
+
+    if (a[7])
+        fault("place 7 is %u", a[7]);
+    if (a[0] && (a[3] || a[4] || a[5] || a[6]))
+        fault("refusal %u tells more: %u %u %u %u", a[0], a[3], a[4], a[5], a[6]);
+    if ((!a[0] || a[0] >= PT_IDENTITY) && (a[1] || a[2]))
+        fault("number %u with list %u and offset %u", a[0], a[1], a[2]);
+    if (a[4] > 1)
+        fault("present is %u", a[4]);
+    if (a[6] && a[6] != most_control)
+        fault("control is %u", a[6]);
+}
+
+void check_list_refusal(uint32_t which, int list)
+{
+    const uint32_t *a = answer();
+    uint32_t read[8];
+
+    pt_read(lent[list].at, lent[list].len, any_row, 65536, read);
+    if (a[1] != which || a[0] != read[0] || a[2] != read[2])
+        fault("refusal %u of list %u at %u, but the reader says %u at %u of list %u", a[0], a[1], a[2], read[0], read[2], which);
+}
+
+static int is_list_refusal(void)
+{
+    return answer()[0] >= PT_HEADER && answer()[0] <= PT_SID;
+}
+
+void check_reads(const uint8_t *list, const uint32_t *told)
+{
+    uint32_t read[8];
+
+    if (!told[4]) {
+        if (told[3] || told[5])
+            fault("an absent list of %u bytes, %u entries", told[3], told[5]);
+        return;
+    }
+    pt_read(list, told[3], any_row, 65536, read);
+    if (read[0] || read[3] != told[3] || read[5] != told[5])
+        fault("a list of %u bytes, %u entries reads as %u: %u bytes, %u entries", told[3], told[5], read[0], read[3], read[5]);
+}
+
+size_t choose_out(const uint32_t *probed)
+{
+    size_t needed = probed[3];
+
+    switch (pick(8)) {
+    case 0: return 0;
+    case 1: return pick((uint32_t)needed + 1);
+    case 2: return needed ? needed - 1 : 0;
+    case 3: return needed + 1;
+    case 4: return needed + pick(3000);
+    case 5: return chance(50) ? 70000 : needed;
+    default: return needed;
+    }
+}
+
+void check_probed(const uint32_t *probed, size_t out_len)
+{
+    const uint32_t *a = answer();
+
+    if (!probed[0] && probed[3] > out_len) {
+        if (a[0] != PT_ROOM)
+            fault("%u bytes in %zu of room: number %u", probed[3], out_len, a[0]);
+    } else if (memcmp(a, probed, 32)) {
+        fault("another answer with %zu bytes of room: %u, then %u", out_len, probed[0], a[0]);
+    }
+    lent[OUT].may_change = a[3];
+    if (a[3] && memcmp(lent[OUT].at, plenty, a[3]))
+        fault("another result with %zu bytes of room", out_len);
+}
+
+static uint32_t expected_identity(const uint8_t *bytes, size_t len)
+{
+    static const uint8_t creator[8] = {1, 1, 0, 0, 0, 0, 0, 3};
+
+    if (len < 8 || bytes[0] != 1 || bytes[1] > 15 || len != 8 + 4u * bytes[1])
+        return 6;
+    if (!memcmp(bytes, creator, 8) && bytes[8] < 2 && !bytes[9] && !bytes[10] && !bytes[11])
+        return 1u + bytes[8];
+    return 0;
+}
+
+uint32_t case_identity(void)
+{
+    uint8_t *bytes = lent[FIRST].before;
+    size_t len = chance(8) ? make_sid(bytes) : make_identity(bytes, 2);
+    uint32_t number;
+
+    if (chance(1000))
+        make_bytes(bytes, len = pick(LIST_MOST));
+    lend(FIRST, len);
+    number = pt_identity(lent[FIRST].at, len);
+    if (number != expected_identity(bytes, len))
+        fault("number %u", number);
+    return number;
+}
+
+/* The offsets are those of the list's own sizes. */
+static void check_row(const uint8_t *list, const uint16_t *row, size_t count, size_t len)
+{
+    size_t at = 8, i;
+
+    for (i = 0; i < count; i++) {
+        if (row[i] != at)
+            fault("entry %zu at %u, not at %zu", i, row[i], at);
+        at += get16(list + at + 2);
+    }
+    if (at != len)
+        fault("the entries end at %zu", at);
+}
+
+static size_t choose_row(const uint8_t *list, size_t len)
+{
+    size_t count = len < 8 ? 0 : get16(list + 4);
+
+    switch (pick(8)) {
+    case 0: return 0;
+    case 1: return count ? count - 1 : 0;
+    case 2: return count + 1 + pick(50);
+    case 3: return pick(50);
+    default: return count;
+    }
+}
+
+uint32_t case_read(void)
+{
+    uint8_t *list = lent[FIRST].before;
+    size_t len = make_list(list, chance(4) ? 4000 : 600, 2), row_len = choose_row(list, len);
+    uint16_t *row;
+    const uint32_t *a;
+
+    lend(FIRST, len);
+    lend_filled(OUT, 2 * row_len);
+    lend_answer();
+    a = answer();
+    row = (uint16_t *)(void *)lent[OUT].at;
+    pt_read(lent[FIRST].at, len, row, row_len, answer());
+    check_places(0);
+    if (a[1])
+        fault("the reader tells of list %u", a[1]);
+    if (a[2] > len || (is_list_refusal() && a[0] != PT_HEADER && a[2] < 8) || (a[0] == PT_HEADER && a[2]))
+        fault("number %u at offset %u of %zu", a[0], a[2], len);
+    if (a[0] == PT_ROOM && row_len >= get16(list + 4))
+        fault("8 with a row of %zu", row_len);
+    if (a[0] == PT_DONE) {
+        if (a[3] != len || a[4] != 1 || a[5] != get16(list + 4) || a[5] > row_len)
+            fault("length %u, present %u, count %u", a[3], a[4], a[5]);
+        check_row(list, row, a[5], len);
+    }
+    lent[OUT].may_change = 2 * a[5];
+    return a[0];
+}
+
+static void lend_compute(void)
+{
+    int list;
+
+    for (list = FIRST; list <= THIRD; list++)
+        lend(list, make_list(lent[list].before, 800, 20));
+    lend(TYPES, make_types(lent[TYPES].before));
+    lend(OWNER, make_identity(lent[OWNER].before, 30));
+    lend(GROUP, make_identity(lent[GROUP].before, 30));
+    make_mapping(lent[MAPPING].before);
+    lend(MAPPING, 16);
+    lend_answer();
+}
+
+static void compute(uint32_t rule, uint32_t settings, uint8_t *out, size_t out_len, uint32_t *to)
+{
+    pt_compute(rule, settings, (const uint32_t *)(const void *)lent[MAPPING].at, lent[FIRST].at, lent[FIRST].len, lent[SECOND].at,
+               lent[SECOND].len, lent[THIRD].at, lent[THIRD].len, lent[TYPES].at, lent[TYPES].len, lent[OWNER].at, lent[OWNER].len,
+               lent[GROUP].at, lent[GROUP].len, out, out_len, to);
+}
+
+/* From 6 on every present list reads as done; 12 comes before they are looked at. */
+static void check_present_lists(uint32_t settings)
+{
+    const uint32_t *a = answer();
+    uint32_t read[8];
+    int list;
+
+    for (list = FIRST; list <= THIRD && a[0] != PT_RULE; list++) {
+        if (!(settings & (PT_PARENT << list)))
+            continue;
+        pt_read(lent[list].at, lent[list].len, any_row, 65536, read);
+        if (read[0]) {
+            check_list_refusal((uint32_t)list + 1, list);
+            return;
+        }
+    }
+    if (is_list_refusal())
+        fault("refusal %u of list %u, but each list reads as done", a[0], a[1]);
+}
+
+uint32_t case_compute(void)
+{
+    uint32_t rule = chance(12) ? pick(4) : 1 + pick(2), settings = (uint32_t)next(), probed[8];
+    size_t out_len;
+
+    lend_compute();
+    compute(rule, settings, plenty, sizeof plenty, probed);
+    out_len = choose_out(probed);
+    lend_filled(OUT, out_len);
+    compute(rule, settings, lent[OUT].at, out_len, answer());
+    check_places(0x0400);
+    check_present_lists(settings);
+    check_probed(probed, out_len);
+    if ((rule != 1 && rule != 2) != (answer()[0] == PT_RULE))
+        fault("rule %u: number %u", rule, answer()[0]);
+    if (answer()[0] == PT_DONE)
+        check_reads(lent[OUT].at, answer());
+    return answer()[0];
+}
+
+/* The listing has a line for each object, and one more. `bad at N` names an offset of the script. */
+static void check_text(const char *text, const uint32_t *a, size_t script_len)
+{
+    char begin[32];
+    size_t lines = 0, i;
+    unsigned long at;
+
+    for (i = 0; i < a[3]; i++)
+        lines += text[i] == '\n';
+    if (a[4]) {
+        snprintf(begin, sizeof begin, "objects %u\n", (unsigned)a[5]);
+        if (a[3] > 203 || a[5] > 16 || lines != a[5] + 1 || strncmp(text, begin, strlen(begin)))
+            fault("a listing of %u objects in %u bytes", a[5], a[3]);
+    } else if (a[5] || lines != 1 || sscanf(text, "bad at %lu\n", &at) != 1 || at > script_len) {
+        fault("no listing, and not `bad at N`");
+    }
+}
+
+uint32_t case_play(void)
+{
+    size_t len = make_script(lent[FIRST].before), out_len;
+    uint32_t probed[8];
+    char text[256] = {0};
+
+    lend(FIRST, len);
+    lend_answer();
+    pt_play(lent[FIRST].at, len, plenty, sizeof plenty, probed);
+    out_len = choose_out(probed);
+    lend_filled(OUT, out_len);
+    pt_play(lent[FIRST].at, len, lent[OUT].at, out_len, answer());
+    check_places(0);
+    check_probed(probed, out_len);
+    if (answer()[0] == PT_DONE) {
+        if (answer()[3] >= sizeof text)
+            fault("a text of %u bytes", answer()[3]);
+        memcpy(text, lent[OUT].at, answer()[3]);
+        check_text(text, answer(), len);
+    }
+    return answer()[0];
+}

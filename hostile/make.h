@@ -1,0 +1,29 @@
+/* Inputs, all from one generator: well formed, spoilt and random. Each maker writes to `to` and gives the length. */
+#ifndef MAKE_H
+#define MAKE_H
+
+#include <stddef.h>
+#include <stdint.h>
+
+enum { SID_MOST = 68, LIST_MOST = 70000, SCRIPT_MOST = 200000 };
+
+void make_seed(uint64_t seed);
+uint64_t next(void);
+uint32_t pick(uint32_t n);  /* 0 to n - 1 */
+int chance(uint32_t n);     /* once in n */
+
+uint16_t get16(const uint8_t *from);
+void put16(uint8_t *to, size_t value);
+void put32(uint8_t *to, uint32_t value);
+
+void make_bytes(uint8_t *to, size_t len);
+void make_guid(uint8_t to[16]);
+void make_mapping(uint8_t to[16]);
+size_t make_types(uint8_t *to);
+size_t make_sid(uint8_t *to);                                      /* exactly one, at times a placeholder */
+size_t make_identity(uint8_t *to, uint32_t spoilt);                /* once in `spoilt` anything but a good owner */
+size_t make_good_list(uint8_t *to, size_t most, unsigned entries);
+size_t make_list(uint8_t *to, size_t most, uint32_t spoilt);       /* once in `spoilt` a spoilt one; seldom a very long one */
+size_t make_script(uint8_t *to);
+
+#endif
