@@ -56,7 +56,7 @@ hostile: lib
 	$(HOSTILE) -fsanitize=address,undefined -fno-sanitize-recover=all -o target/hostile
 	target/hostile $(CALLS) $(SEED)
 	$(HOSTILE) -o target/hostile_plain
-	if command -v valgrind >/dev/null; then valgrind --error-exitcode=1 -q target/hostile_plain 3000 $(SEED) | tail -n 1; fi
+	if command -v valgrind >/dev/null; then valgrind --error-exitcode=1 -q target/hostile_plain 3000 $(SEED) >target/hostile.txt; fi
 
 cases: second
 	$(SECOND) cases list examples/lists.txt > crates/vectors_list/stdin
