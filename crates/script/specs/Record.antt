@@ -49,8 +49,13 @@ parentOf b = cond (eqb b 0xFF) nobody b
 
 -- ---- the five records
 
--- 1 add: parent byte, kind, mark, 16 type bytes, owner, group, list. 2 set list: object byte, list. 3 mark: object byte, mark.
--- 4: object byte, owner and group. 5 undo. How long each is; an unknown one is its number
+-- 1 add: parent byte (FF none), kind, mark, 16 type bytes, owner, group, list
+-- 2 set list: object byte, list
+-- 3 mark: object byte, mark
+-- 4: object byte, owner and group
+-- 5 undo
+
+-- how long a record is; an unknown one is its number alone
 unfoldable pub sizeOf : List ℕ → ℕ
 sizeOf t =
     cond (eqb (numberOf t) 1) (listEnd (namesEnd 20 t) t)
@@ -81,7 +86,7 @@ newIn t =
       list = listIn (namesEnd 20 t) t;
     }
 
--- what a whole record asks of a tree
+-- what a whole record of good form asks of a tree: the number that is left is 5, undo
 unfoldable pub asked : List ℕ → Call Change
 asked t =
     cond (eqb (numberOf t) 1) (edit (add (newIn t)))
