@@ -77,9 +77,6 @@ module _ (g : Given) (rev : ℕ) (t : List ℕ) (s : Sound access rev t) where
           (sym (emit-yes g p t e (omega (arith, s .four))))
       by false e = emit-no g p (take (sizeOf t) t) (takes-in p ∙ e) ∙ sym (emit-no g p t e)
 
-pub takes-cut : (g : Given) (p : Pass) (rev : ℕ) (t : List ℕ) → Sound access rev t → takesBy g p (take (sizeOf t) t) ≡ takesBy g p t
-takes-cut g p rev t s = takes-in g rev t s p
-
 pub emit-cut : (g : Given) (p : Pass) (rev : ℕ) (t : List ℕ) → Sound access rev t → emitOf g p (take (sizeOf t) t) ≡ emitOf g p t
 emit-cut g p rev t s = emit-in g rev t s p
 
@@ -110,10 +107,6 @@ object-append (x ∷ xs) ys = rw (object-append xs ys) (sym (or-assoc (objectKin
 
 pub measure-append : (xs ys : List (List ℕ)) → measureOf (xs ++ ys) ≡ both (measureOf xs) (measureOf ys)
 measure-append xs ys = rw (flatten-append xs ys, length-append (flatten xs) (flatten ys), length-append xs ys, object-append xs ys)
-
-pub measure-none : measureOf [] ≡ record { bytes = 0; count = 0; object = false }
-unfolding flatten anyObject
-measure-none = refl
 
 -- how long a copy is
 pub copy-length : (flags : ℕ) (m : Mapping) (owner group t : List ℕ)

@@ -6,7 +6,7 @@ use native.Mathlib.Nat.{not-suc-le-zero}
 use native.Mathlib.Decide.{ℕ-discrete}
 use native.Mathlib.Omega.{arith}
 use lib.Dec.{eqb, leb}
-use lib.Bits.{bitOr, and-zero-r}
+use lib.Bits.{bitOr}
 use borrow.Author.Tests.{leb-true, eqb-true, not-true}
 use Rattle.list.proofs.Tests.{both-true}
 use Rattle.inherit.specs.Given.{has}
@@ -40,10 +40,6 @@ pub inherited-le : (x : ℕ) → x ≤ 31 → bitOr x 0x18 ≤ 31
 unfolding allBelow
 inherited-le x h = leb-true (bitOr x 0x18) 31 (below 32 (λ n. leb (bitOr n 0x18) 31) refl x (omega arith))
 
-pub only-le : (x : ℕ) → x ≤ 31 → bitOr x 0x08 ≤ 31
-unfolding allBelow
-only-le x h = leb-true (bitOr x 0x08) 31 (below 32 (λ n. leb (bitOr n 0x08) 31) refl x (omega arith))
-
 pub only-not : (x : ℕ) → x ≤ 31 → has 0x10 x ≡ false → has 0x10 (bitOr x 0x08) ≡ false
 unfolding allBelow
 only-not x h e =
@@ -62,10 +58,6 @@ by-le First x h = omega arith
 by-le Second x h = inherited-le x h
 by-le Own x h = h
 by-le All x h = h
-
--- no bit of none is set
-pub has-none : (x : ℕ) → has 0 x ≡ false
-has-none x = rw (and-zero-r x)
 
 -- an object word that announces an ObjectType is odd
 pub odd : (w : ℕ) → w ≤ 3 → has 1 w ≡ true → w % 2 ≡ 1

@@ -1,5 +1,5 @@
 -- Four passes together.
-use mathlib.Core.Path.{_≡_, refl, sym, ap, ap₂, _∙_}
+use mathlib.Core.Path.{_≡_, refl, sym, ap, _∙_}
 use mathlib.Core.List.{List, _++_, flatten, append-assoc, append-nil}
 use Prim.Native.Nat.{ℕ, _+_, _-_, _≤_}
 use native.Mathlib.Omega.{arith}
@@ -7,7 +7,6 @@ use lib.ListN.{length, take, drop, length-append, length-drop, drop-of-length-le
 use lib.Seq.{length-take-le, take-all}
 use Rattle.list.specs.Bytes.{front}
 use Rattle.list.proofs.Writes.{length-front, front-then}
-use Rattle.inherit.specs.declared.passes.Measure.{Measure}
 use Rattle.inherit.specs.Emit.{measureOf, both}
 use Rattle.inherit.specs.Plan.{onward}
 use Rattle.inherit.proofs.Emits.{flatten-append, measure-append}

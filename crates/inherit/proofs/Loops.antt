@@ -1,8 +1,8 @@
 -- What holds at each turn of the two loops over a list's entries.
-use mathlib.Core.Path.{_≡_, refl, sym, ap, ap₂, _∙_}
-use mathlib.Core.Bool.{Bool, false, or-assoc, or-false}
-use mathlib.Core.List.{List, [], _∷_, _++_, append-assoc, append-nil, flatten}
-use Prim.Native.Nat.{ℕ, zero, suc, _+_, _-_, _*_, _≤_, _<_}
+use mathlib.Core.Path.{_≡_, refl, sym, ap, _∙_}
+use mathlib.Core.Bool.{false, or-assoc, or-false}
+use mathlib.Core.List.{List, _++_, append-assoc, append-nil, flatten}
+use Prim.Native.Nat.{ℕ, _+_, _-_, _*_, _≤_, _<_}
 use native.Mathlib.Nat.{add-assoc, add-zero, zero-add}
 use native.Mathlib.Omega.{arith}
 use lib.ListN.{length, take, drop, length-append, length-drop}
@@ -12,7 +12,7 @@ use Rattle.list.specs.Entry.{access, sizeOf}
 use Rattle.list.specs.List.{cut}
 use Rattle.list.specs.Good.{Sound, Passes}
 use Rattle.list.proofs.Rows.{passes-turn}
-use Rattle.list.proofs.Writes.{Stands, Grown, grown, stands-none, stands-length}
+use Rattle.list.proofs.Writes.{Stands, grown, stands-none, stands-length}
 use Rattle.inherit.specs.declared.copies.Pass.{Pass}
 use Rattle.inherit.specs.declared.passes.Measure.{Measure}
 use Rattle.inherit.specs.Given.{Given}

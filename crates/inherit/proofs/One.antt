@@ -1,11 +1,11 @@
 -- One entry through a pass, in the fields that the code has.
-use mathlib.Core.Path.{_≡_, refl, sym, ap, ap₂, _∙_}
-use mathlib.Core.Bool.{Bool, true, false, cond, _||_, or-false}
-use mathlib.Core.List.{List, [], _∷_, _++_, append-nil, flatten}
-use Prim.Native.Nat.{ℕ, _+_, _-_, _≤_, _<_}
+use mathlib.Core.Path.{_≡_, sym, ap, _∙_}
+use mathlib.Core.Bool.{Bool, true, false, cond, or-false}
+use mathlib.Core.List.{List, [], _∷_, append-nil, flatten}
+use Prim.Native.Nat.{ℕ, _+_, _-_, _≤_}
 use native.Mathlib.Omega.{arith}
 use lib.ListN.{length}
-use Rattle.list.specs.Entry.{access, objectKind, kindOf, flagsOf, sizeOf, maskOf, sidAt, sidEnd, middleOf, tailOf, entryBytes, fieldsOf}
+use Rattle.list.specs.Entry.{access, objectKind, kindOf, flagsOf, maskOf, middleOf, tailOf, entryBytes, fieldsOf}
 use Rattle.list.specs.Good.{Sound}
 use Rattle.list.specs.declared.entries.Entry.{Entry}
 use Rattle.list.proofs.Remade.{bounds, kind-entry}

@@ -1,15 +1,14 @@
 -- The answer by cases, in the order of the tests.
-use mathlib.Core.Path.{_≡_, refl, sym, ap, _∙_}
-use mathlib.Core.Bool.{Bool, true, false}
+use mathlib.Core.Path.{_≡_, sym, _∙_}
+use mathlib.Core.Bool.{true, false}
 use mathlib.Core.List.{List}
 use Prim.Native.Nat.{ℕ}
 use Rattle.list.specs.Entry.{access}
 use Rattle.inherit.specs.declared.Settings.{Settings}
-use Rattle.inherit.specs.declared.Computed.{Computed}
 use Rattle.inherit.specs.declared.Computed.the-variants.{Refused}
 use Rattle.inherit.specs.Given.{Given, Optional, typesOk}
 use Rattle.inherit.specs.Branch.{resultOf}
-use Rattle.inherit.specs.Compute.{need, readable, ordinary, ruleOk, withRoom, computeOf}
+use Rattle.inherit.specs.Compute.{need, ordinary, ruleOk, withRoom, computeOf}
 use Rattle.inherit.specs.Source.{sourceOf}
 use Rattle.inherit.proofs.Sources.{readable-good, readable-bad}
 

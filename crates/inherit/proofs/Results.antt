@@ -122,15 +122,8 @@ rev-whole es a = by (anyObject es) refl
     by true q = a
     by false q = plain-all 2 es q a
 
--- so are those that are whole under any one revision
-pub rev-any : (rev : ℕ) (es : List (List ℕ)) → Every (Whole access rev) es → Every (Whole access (revFor es)) es
-rev-any rev es a = rev-whole es (every-to (Whole access rev) (Whole access 4) (whole-four access rev) es a)
-
 -- the results of a pass and of a plan
 module _ (g : Given) (o : isSid (g .owner) ≡ true) (r : isSid (g .group) ≡ true) where
-  pub emit-all-whole : (p : Pass) (rev : ℕ) (es : List (List ℕ)) → Every (Whole access rev) es → Every (Whole access rev) (emitAll g p es)
-  emit-all-whole p rev = every-emitted g (Whole access rev) p rev (emit-whole g o r p rev)
-
   pub planned-four : (q : Plan) (ps cs ds : List (List ℕ)) (rp rc rd : ℕ)
       → Every (Whole access rp) ps → Every (Whole access rc) cs → Every (Whole access rd) ds → Every (Whole access 4) (planned g q ps cs ds)
   planned-four =
@@ -143,9 +136,6 @@ module _ (g : Given) (o : isSid (g .owner) ≡ true) (r : isSid (g .group) ≡ t
   planned-whole q ps cs ds rp rc rd wp wc wd = rev-whole (planned g q ps cs ds) (planned-four q ps cs ds rp rc rd wp wc wd)
 
   module _ (po : placeholderOf (g .owner) ≡ 0) (pr : placeholderOf (g .group) ≡ 0) where
-    pub emit-all-ordinary : (p : Pass) (rev : ℕ) (es : List (List ℕ)) → Every (Whole access rev) es → Every (λ x. placeholderOf (sidOf x) ≡ 0) (emitAll g p es)
-    emit-all-ordinary p rev = every-emitted g _ p rev (λ e w. emit-ordinary g o r p rev e w po pr)
-
     pub planned-ordinary : (q : Plan) (ps cs ds : List (List ℕ)) (rp rc rd : ℕ)
         → Every (Whole access rp) ps → Every (Whole access rc) cs → Every (Whole access rd) ds
         → Every (λ x. placeholderOf (sidOf x) ≡ 0) (planned g q ps cs ds)

@@ -1,33 +1,31 @@
 -- Once everything was tested, what the plan gives is the result.
-use mathlib.Core.Path.{_≡_, refl, sym, ap, ap₂, subst, _∙_}
+use mathlib.Core.Path.{_≡_, sym, ap, subst, _∙_}
 use mathlib.Core.Bool.{Bool, true, false, cond}
-use mathlib.Core.List.{List, [], _++_}
+use mathlib.Core.List.{List}
 use Prim.Native.Nat.{ℕ, _/_, _%_, _≤_}
 use native.Mathlib.Omega.{arith}
-use lib.ListN.{length, take, drop}
+use lib.ListN.{length, drop}
 use lib.Dec.{eqb, leb}
 use borrow.Author.Tests.{eqb-true, leb-true}
 use Rattle.list.specs.Entry.{access}
-use Rattle.list.specs.Good.{Passes, Whole, Every}
+use Rattle.list.specs.Good.{Passes}
 use Rattle.list.specs.List.{cut}
-use Rattle.list.specs.Identity.{isSid, placeholderOf, identityOf, bytesOf, madeOf}
+use Rattle.list.specs.Identity.{isSid, placeholderOf, identityOf, madeOf}
 use Rattle.list.proofs.Tests.{both-true}
 use Rattle.list.proofs.Sids.{identity-zero, Holds, made-holds}
 use Rattle.list.specs.declared.identities.Made.{Made}
 use Rattle.inherit.specs.declared.Settings.{Settings}
 use Rattle.inherit.specs.declared.Mapping.{Mapping}
 use Rattle.inherit.specs.declared.branch.Plan.{Plan}
-use Rattle.inherit.specs.declared.copies.Pass.the-variants.{First, Second, Own, All}
-use Rattle.inherit.specs.declared.copies.Terms.{Terms}
 use Rattle.inherit.specs.declared.tests.Source.{Source}
 use Rattle.inherit.specs.declared.whole.Part.{Part}
 use Rattle.inherit.specs.declared.whole.Parts.{Parts}
 use Rattle.inherit.specs.Given.{Given, lent, entriesIf, typesOk, typesOf, fourOf}
 use Rattle.inherit.specs.Copies.{anyHeritable}
 use Rattle.inherit.specs.Compute.{ordinary, givenFor, resultFor}
-use Rattle.inherit.specs.Emit.{givenBy, emitAll}
+use Rattle.inherit.specs.Emit.{givenBy}
 use Rattle.inherit.specs.Plan.{planOf, planned, gathered, resultBy, Good, Ready}
-use Rattle.inherit.specs.Source.{Found, Tested}
+use Rattle.inherit.specs.Source.{Tested}
 use Rattle.inherit.proofs.Sources.{Sourced, sourced, cond-cut}
 use Rattle.inherit.proofs.Planned.{plan-is}
 

@@ -1,14 +1,13 @@
 -- What holds at each turn of the search for an inheritable entry.
 use mathlib.Core.Path.{_≡_, refl, sym, ap, _∙_}
 use mathlib.Core.Bool.{Bool, false, _||_, or-assoc, or-false}
-use mathlib.Core.List.{List, [], _∷_}
+use mathlib.Core.List.{List}
 use Prim.Native.Nat.{ℕ, zero, suc, _+_, _-_, _≤_, _<_}
 use native.Mathlib.Nat.{not-suc-le-zero}
 use native.Mathlib.Numerals.{sub-one}
-use native.Mathlib.Omega.{arith}
-use lib.ListN.{take, drop}
+use lib.ListN.{drop}
 use lib.Seq.{drop-drop}
-use Rattle.list.specs.Entry.{access, flagsOf, sizeOf}
+use Rattle.list.specs.Entry.{access, sizeOf}
 use Rattle.list.specs.List.{cut}
 use Rattle.list.specs.Good.{Sound, Passes}
 use Rattle.list.proofs.Remade.{cut-same}

@@ -1,35 +1,34 @@
 -- What demand 2 asks of every result, for any arguments: a list that was computed reads as done, with the count it says, and names no placeholder;
 -- on good arguments the only refusal left is 8; and what a parent without inheritable entries gives.
 use mathlib.Core.Path.{_≡_, refl, sym, ap, ap₂, subst, _∙_}
-use mathlib.Core.Bool.{Bool, true, false, cond, _&&_}
-use mathlib.Core.List.{List, [], _∷_}
-use Prim.Native.Nat.{ℕ, _+_, _≤_, _<_}
+use mathlib.Core.Bool.{Bool, true, false, cond}
+use mathlib.Core.List.{List, []}
+use Prim.Native.Nat.{ℕ, _≤_}
 use native.Mathlib.Omega.{arith}
-use lib.ListN.{length, drop}
+use lib.ListN.{length}
 use lib.Dec.{leb}
 use borrow.Author.Tests.{leb-true}
-use Rattle.list.specs.Identity.{placeholderOf, isSid}
+use Rattle.list.specs.Identity.{placeholderOf}
 use Rattle.list.specs.Entry.{access, sidOf}
-use Rattle.list.specs.List.{entriesOf, render, checkOf, revOk}
+use Rattle.list.specs.List.{entriesOf, render, checkOf}
 use Rattle.list.specs.Good.{Whole, Listed, Every}
 use Rattle.list.specs.declared.lists.Reading.the-variants.{Done}
 use Rattle.list.proofs.Tests.{both-true, true-or, eq-or}
 use Rattle.list.proofs.Told.{reads}
-use Rattle.list.proofs.Parts.{Rendered, rendered, length-render}
+use Rattle.list.proofs.Parts.{rendered, length-render}
 use Rattle.list.proofs.Revisions.{rev-known}
 use Rattle.inherit.specs.declared.Settings.{Settings}
 use Rattle.inherit.specs.declared.Mapping.{Mapping}
 use Rattle.inherit.specs.declared.Computed.{Computed}
-use Rattle.inherit.specs.declared.Computed.the-variants.{Present, Absent, Refused}
-use Rattle.inherit.specs.declared.branch.Plan.{Plan}
+use Rattle.inherit.specs.declared.Computed.the-variants.{Present, Refused}
 use Rattle.inherit.specs.Given.{Given, Optional, absent, present, lent, entriesIf, typesOk}
 use Rattle.inherit.specs.Copies.{anyHeritable, own}
 use Rattle.inherit.specs.Last.{lastStep}
 use Rattle.inherit.specs.Branch.{Result, none, some, fromDefault, branch, resultOf}
 use Rattle.inherit.specs.Compute.{anyObject, revFor, sizeFor, fits, withRoom, ordinary, ruleOk, computeOf, bytesFor, givenFor, resultFor, answerFor}
 use Rattle.inherit.specs.Plan.{planOf, planned, resultBy}
-use Rattle.inherit.specs.Source.{sourceBy, sourceOf, Found}
-use Rattle.inherit.proofs.Sources.{Sourced, sourced-of}
+use Rattle.inherit.specs.Source.{sourceBy, sourceOf}
+use Rattle.inherit.proofs.Sources.{sourced-of}
 use Rattle.inherit.proofs.Refusals.{bad-rule, bad-parent, bad-creator, bad-default, bad-owner, bad-group, bad-types, all-good}
 use Rattle.inherit.proofs.Planned.{plan-is}
 use Rattle.inherit.proofs.Results.{planned-whole, planned-ordinary}

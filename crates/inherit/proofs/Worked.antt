@@ -9,6 +9,7 @@ use Rattle.list.specs.Identity.{sidLen, isSid, creator, placeholderOf, identity
 use Rattle.list.specs.Entry.{access, plainOf, objectOf, objectKind, kindOk, flagsOk, headOf, wordAfter, entryBytes, tailOk, need, entryOf}
 use Rattle.list.specs.List.{revOk, headerOk, cut, entriesOf, headBytes, render, onGood, walkOf, finish, checkOf}
 use Rattle.list.specs.Answer.{Values, done, refused}
+use Rattle.inherit.specs.declared.Mapping.{Mapping}
 use Rattle.inherit.specs.declared.Settings.{Settings}
 use Rattle.inherit.specs.Given.{Given, Optional, absent, present, entriesIf, typesOk}
 use Rattle.inherit.specs.Copies.{anyHeritable, among, typeApplies, pass, kept, takesFirst, firstPart, takesSecond, secondPart, fromParent, own, fromCreator}
@@ -17,37 +18,40 @@ use Rattle.inherit.specs.Branch.{inheritedBit, withCreator, fromDefault,
 use Rattle.inherit.specs.Compute.{anyObject, withRoom, need as needed, onReading, readable, ruleOk, computeOf, bytesFor, outBy, valuesOf}
 
 -- S-1-5-18
-abbrev system : List ℕ
+abbrev pub system : List ℕ
 system = 0x01 ∷ 0x01 ∷ 0 ∷ 0 ∷ 0 ∷ 0 ∷ 0 ∷ 0x05 ∷ 0x12 ∷ 0 ∷ 0 ∷ 0 ∷ []
 
 abbrev with : Bool → Bool → Settings
 with auto protect =
     record { parent = true; creator = true; default = true; container = true; auto = auto; defaulted = false; protect = protect }
 
+abbrev pub mapping : Mapping
+mapping = record { read = 0x00120089; write = 0x00120116; execute = 0x001200A0; all = 0x001F01FF }
+
 abbrev given : ℕ → Bool → List ℕ → Given
 given rule container owner =
     record {
       rule = rule;
       container = container;
-      mapping = record { read = 0x00120089; write = 0x00120116; execute = 0x001200A0; all = 0x001F01FF };
+      mapping = mapping;
       types = [];
       owner = owner;
       group = system;
     }
 
 -- one entry for creator owner, with the generic read bit
-abbrev parentWith : ℕ → List ℕ
+abbrev pub parentWith : ℕ → List ℕ
 parentWith flags = 0x02 ∷ 0 ∷ 0x1C ∷ 0 ∷ 0x01 ∷ 0 ∷ 0 ∷ 0 ∷ 0x00 ∷ flags ∷ 0x14 ∷ 0 ∷ 0 ∷ 0 ∷ 0 ∷ 0x80 ∷ creator 0
 
 -- what it becomes
-abbrev inherited : ℕ → List ℕ
+abbrev pub inherited : ℕ → List ℕ
 inherited flags = 0x00 ∷ flags ∷ 0x14 ∷ 0 ∷ 0x89 ∷ 0 ∷ 0x12 ∷ 0x80 ∷ system
 
 -- allow, flags 0, mask 1, S-1-5-18
 abbrev plain : List ℕ
 plain = 0x00 ∷ 0x00 ∷ 0x14 ∷ 0 ∷ 0x01 ∷ 0 ∷ 0 ∷ 0 ∷ system
 
-abbrev listed : ℕ → ℕ → List (List ℕ) → List ℕ
+abbrev pub listed : ℕ → ℕ → List (List ℕ) → List ℕ
 listed size count es = 0x02 ∷ 0 ∷ size ∷ 0 ∷ count ∷ 0 ∷ 0 ∷ 0 ∷ flatten es
 
 -- the arguments, the answer, and the result's bytes

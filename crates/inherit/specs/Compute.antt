@@ -1,12 +1,12 @@
 -- What the computation answers for any arguments, and what the result's buffer holds afterwards.
 use Prim.Native.Nat.{ℕ, _+_}
 use mathlib.Core.List.{List, [], _∷_, flatten}
-use mathlib.Core.Bool.{Bool, true, false, not, cond, _&&_, _||_}
+use mathlib.Core.Bool.{Bool, true, false, cond, _&&_, _||_}
 use lib.ListN.{length}
 use lib.Dec.{eqb, leb}
 use Rattle.list.specs.Bytes.{front}
 use Rattle.list.specs.Identity.{identityOf}
-use Rattle.list.specs.Entry.{Family, access, objectKind, kindOf}
+use Rattle.list.specs.Entry.{access, objectKind, kindOf}
 use Rattle.list.specs.List.{render, checkOf}
 use Rattle.list.specs.Answer.{Values, done, refused}
 use Rattle.list.specs.declared.lists.Reading.{Reading}

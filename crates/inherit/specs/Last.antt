@@ -1,7 +1,7 @@
 -- The last step: entries pass by a filter; a placeholder becomes the owner or the group; generic bits are mapped.
 use Prim.Native.Nat.{ℕ}
 use mathlib.Core.List.{List, [], _∷_, _++_}
-use mathlib.Core.Bool.{Bool, true, false, not, cond, _||_}
+use mathlib.Core.Bool.{Bool, not, cond, _||_}
 use lib.Dec.{eqb}
 use lib.Bits.{bitOr}
 use Rattle.list.specs.Identity.{placeholderOf}

@@ -1,6 +1,5 @@
 // Which branch of document 01's table is taken.
 ghost use mathlib.Core.Path.{_≡_};
-ghost use Prim.Native.Nat.{ℕ};
 ghost use lib.ListN.{drop};
 ghost use Rattle.list.specs.Entry.{access, sizeOf};
 ghost use Rattle.list.specs.List.{cut};

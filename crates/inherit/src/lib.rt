@@ -1,9 +1,8 @@
 // The computation of a new object's list.
 ghost use mathlib.Core.Path.{_≡_};
-ghost use mathlib.Core.Bool.{true, cond};
+ghost use mathlib.Core.Bool.{cond};
 ghost use lib.ListN.{length};
-ghost use Rattle.inherit.specs.Given.{lent};
-ghost use Rattle.inherit.specs.Compute.{ruleOk, withRoom, bytesFor, outBy, resultFor, answerFor, outFor};
+ghost use Rattle.inherit.specs.Compute.{withRoom, bytesFor, outBy, resultFor, answerFor, outFor};
 ghost use Rattle.inherit.specs.Source.{Tested};
 use branch::any_heritable;
 use branch::plan_for;

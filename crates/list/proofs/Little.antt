@@ -81,12 +81,3 @@ spell-le (suc k) (b ∷ s) h d =
 -- so bytes that spell the same number are the same
 pub le-same : (k : ℕ) (a b : List ℕ) → k ≤ length a → k ≤ length b → Bytes a → Bytes b → le k a ≡ le k b → take k a ≡ take k b
 le-same k a b ha hb da db e = sym (spell-le k a ha da) ∙ ap (spell k) e ∙ spell-le k b hb db
-
--- the bytes of a 16-bit and of a 32-bit number, one by one
-pub spell-2 : (m : ℕ) → spell 2 m ≡ m % 256 ∷ m / 256 % 256 ∷ []
-unfolding spell
-spell-2 m = refl
-
-pub spell-4 : (m : ℕ) → spell 4 m ≡ m % 256 ∷ m / 256 % 256 ∷ m / 256 / 256 % 256 ∷ m / 256 / 256 / 256 % 256 ∷ []
-unfolding spell
-spell-4 m = refl

@@ -10,7 +10,7 @@ use lib.Seq.{drop-cons, drop-drop, drop-at, take-at, drop-length}
 use Rattle.list.specs.Bytes.{le, spell}
 use Rattle.list.specs.Entry.{Family, entryOf, sizeOf, kindOf, fieldsOf}
 use Rattle.list.specs.List.{cut, endOf, entriesOf, offsets, headBytes, render, revOk, revOf, countOf, checkOf}
-use Rattle.list.specs.Good.{Sound, Whole, Passes, Header, Listed, Every}
+use Rattle.list.specs.Good.{Whole, Passes, Header, Listed, Every}
 use Rattle.list.specs.declared.entries.Checked.the-variants.{Good}
 use Rattle.list.specs.declared.lists.Reading.the-variants.{Done}
 use Rattle.list.proofs.Little.{le-append, le-spell, length-spell}

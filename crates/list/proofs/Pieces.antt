@@ -2,15 +2,13 @@
 use mathlib.Core.Path.{_≡_, refl, sym, ap, _∙_}
 use mathlib.Core.Bool.{Bool, true, false, cond}
 use mathlib.Core.List.{List, _++_}
-use Prim.Native.Nat.{ℕ, _+_, _≤_, _<_}
+use Prim.Native.Nat.{ℕ, _+_, _≤_}
 use native.Mathlib.Omega.{arith}
-use lib.ListN.{length, take, drop, getD, length-append, length-drop, take-append-drop, List·getD-append}
+use lib.ListN.{length, take, drop, length-append, length-drop, take-append-drop, List·getD-append}
 use lib.Seq.{drop-append-le, length-take-le}
 use lib.Dec.{eqb}
 use borrow.Author.Tests.{eqb-true}
-use Rattle.list.specs.Bytes.{le}
-use Rattle.list.specs.Identity.{sidLen}
-use Rattle.list.specs.Entry.{Family, entryOf, kindOk, flagsOk, tailOk, kindOf, sizeOf, flagsOf, maskOf, objectKind, headOf, wordAfter, wordOf, sidAt, sidLenOf, sidEnd, fieldsOf}
+use Rattle.list.specs.Entry.{Family, kindOf, sizeOf, flagsOf, maskOf, objectKind, headOf, wordAfter, wordOf, sidAt, sidLenOf, fieldsOf}
 use Rattle.list.specs.Good.{Sound, Whole}
 use Rattle.list.proofs.Little.{le-drop-append}
 use Rattle.list.proofs.Sids.{sid-append}

@@ -116,12 +116,6 @@ put-snoc a n x b l e h =
     let m : a + length b + length {A = ℕ} (x ∷ []) ≤ length l = omega arith in
     rw (← e) (sym (put-one (a + length b) x (putAt a b l) k) ∙ put-append a b (x ∷ []) l m)
 
--- one byte more in front
-pub put-cons : (a x : ℕ) (b l : List ℕ) → a + 1 + length b ≤ length l → putAt (a + 1) b (set l a x) ≡ putAt a (x ∷ b) l
-put-cons a x b l h =
-    let m : a + length {A = ℕ} (x ∷ []) + length b ≤ length l = omega arith in
-    rw (← put-one a x l (omega arith)) (put-append a (x ∷ []) b l m)
-
 -- all of a list
 pub put-whole : (b l : List ℕ) → length b ≡ length l → putAt 0 b l ≡ b
 unfolding putAt

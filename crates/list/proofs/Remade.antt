@@ -4,17 +4,17 @@ use mathlib.Core.Bool.{Bool, true, false, cond}
 use mathlib.Core.List.{List, _++_}
 use Prim.Native.Nat.{ℕ, _+_, _-_, _%_, _≤_, _<_}
 use native.Mathlib.Omega.{arith}
-use lib.ListN.{length, take, drop, set, length-append, length-drop, length-set, take-append-drop}
-use lib.Seq.{length-take-le, take-append-le, drop-append-le, take-at, drop-at, drop-drop, drop-set-lt, take-set-lt, getD-set-same, getD-set-other}
+use lib.ListN.{length, take, drop, set, length-append, length-drop, take-append-drop}
+use lib.Seq.{length-take-le, take-append-le, drop-append-le, take-at, drop-at, drop-drop, drop-set-lt, getD-set-same, getD-set-other}
 use lib.Dec.{eqb}
 use borrow.Author.Tests.{eqb-true, eq-eqb, le-leb}
 use Rattle.list.specs.Bytes.{le, spell, guidAt}
 use Rattle.list.specs.Identity.{sidLen}
-use Rattle.list.specs.Entry.{Family, flagsOk, tailOk, entryBytes, kindOf, sizeOf, flagsOf, maskOf, objectKind, headOf, wordAfter, wordOf, guidsOf, sidAt, sidLenOf, sidEnd, middleOf, sidOf, tailOf, fieldsOf}
+use Rattle.list.specs.Entry.{Family, flagsOk, tailOk, entryBytes, kindOf, sizeOf, flagsOf, maskOf, objectKind, headOf, wordAfter, wordOf, guidsOf, sidAt, sidLenOf, sidEnd, middleOf, sidOf, tailOf}
 use Rattle.list.specs.Good.{Sound, Whole, Bounds}
 use Rattle.list.proofs.Little.{le-append, le-spell, length-spell}
 use Rattle.list.proofs.Sids.{OneSid, sid-length, sid-append}
-use Rattle.list.proofs.Pieces.{Same, joined, split, fields-same, head-ge}
+use Rattle.list.proofs.Pieces.{Same, joined, split, head-ge}
 
 -- general laws of lists and numbers, which would stand in Little or in a file of their own
 -- how long a part is that lies inside t
@@ -117,13 +117,6 @@ module _ (t : List ℕ) (v : ℕ) where
       ap₂ (λ (n m : ℕ). take (n - m) (drop m (set t 1 v))) set-size set-sidEnd
       ∙ ap (take (sizeOf t - sidEnd t)) (set-drop (sidEnd t) (omega (arith, head-ge (kindOf t))))
 
-  pub set-guid : guidAt (set t 1 v) 12 ≡ guidAt t 12
-  unfolding guidAt
-  set-guid = rw (length-set t 1 v, set-drop 12 (omega arith))
-
-  pub set-take : (n : ℕ) → 2 ≤ n → take n (set t 1 v) ≡ set (take n t) 1 v
-  set-take n h = take-set-lt n t 1 v h
-
 -- the parts of a good entry don't depend on what follows it
 module _ (f : Family) (rev : ℕ) (t : List ℕ) (s : Sound f rev t) where
   pub cut-length : length (take (sizeOf t) t) ≡ sizeOf t
@@ -131,9 +124,6 @@ module _ (f : Family) (rev : ℕ) (t : List ℕ) (s : Sound f rev t) where
 
   rejoined : Same (take (sizeOf t) t) t
   rejoined = rw (take-append-drop (sizeOf t) t) at (joined f rev (take (sizeOf t) t) (drop (sizeOf t) t) (split f rev t s))
-
-  pub cut-fields : fieldsOf (take (sizeOf t) t) ≡ fieldsOf t
-  cut-fields = sym (fields-same rejoined)
 
   pub cut-same : Same t (take (sizeOf t) t)
   cut-same =
@@ -191,10 +181,6 @@ module _ (kind flags mask : ℕ) (middle sid tail : List ℕ) where
   size-entry h =
       let n = 8 + (length middle + (length sid + length tail)) in
       le-append 2 (spell 2 n) (spell 4 mask ++ (middle ++ (sid ++ tail))) (omega (arith, length-spell 2 n)) ∙ le-spell 2 n h ∙ sym length-entry
-
-  pub mask-entry : mask < 4294967296 → maskOf (entryBytes kind flags mask middle sid tail) ≡ mask
-  unfolding entryBytes spell
-  mask-entry h = le-append 4 (spell 4 mask) (middle ++ (sid ++ tail)) (omega (arith, length-spell 4 mask)) ∙ le-spell 4 mask h
 
   pub rest-entry : drop 8 (entryBytes kind flags mask middle sid tail) ≡ middle ++ (sid ++ tail)
   unfolding entryBytes spell
@@ -265,21 +251,6 @@ module _ (f : Family) (rev : ℕ) (e : List ℕ) (w : Whole f rev e) (flags mask
 
   pub remade-sidEnd : sidEnd (remake e flags mask sid) ≡ sidAt e + length sid
   remade-sidEnd = ap₂ (λ (x y : ℕ). x + y) remade-sidAt remade-sidLen
-
-  pub remade-mask : mask < 4294967296 → maskOf (remake e flags mask sid) ≡ mask
-  remade-mask h = mask-entry (kindOf e) flags mask (middleOf e) sid (tailOf e) h
-
-  pub remade-middle : middleOf (remake e flags mask sid) ≡ middleOf e
-  remade-middle =
-      ap₂ (λ (n : ℕ) (s : List ℕ). take (n - 8) s) remade-sidAt rest
-      ∙ take-at (middleOf e) (sid ++ tailOf e) (sidAt e - 8) (bounds f rev e (w .sound) .middle)
-
-  pub remade-tail : tailOf (remake e flags mask sid) ≡ tailOf e
-  remade-tail =
-      let m = remake e flags mask sid in
-      let z : sizeOf m - sidEnd m ≡ 0 = omega (arith, remade-size, remade-length, remade-sidEnd) in
-      let y : sizeOf e - sidEnd e ≡ 0 = omega (arith, ends-exact f rev e (w .sound)) in
-      ap (λ (n : ℕ). take n (drop (sidEnd m) m)) z ∙ sym (ap (λ (n : ℕ). take n (drop (sidEnd e) e)) y)
 
   pub remade-whole : Whole f rev (remake e flags mask sid)
   unfolding tailOk

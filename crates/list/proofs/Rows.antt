@@ -1,6 +1,6 @@
 -- The row of offsets, filled one element a turn.
 use mathlib.Core.Path.{_≡_, refl, sym, ap, _∙_}
-use mathlib.Core.List.{List, [], _∷_, _++_, append-assoc, append-nil}
+use mathlib.Core.List.{List, _∷_, _++_, append-assoc, append-nil}
 use Prim.Native.Nat.{ℕ, zero, suc, _+_, _-_, _≤_, _<_}
 use native.Mathlib.Nat.{not-suc-le-zero, sub-zero}
 use native.Mathlib.Numerals.{sub-one, add-one}
@@ -9,7 +9,7 @@ use lib.ListN.{length, take, drop, set, length-set, length-drop, take-append-dro
 use lib.Seq.{take-suc-set, drop-set-lt, drop-drop}
 use Rattle.list.specs.Entry.{Family, sizeOf}
 use Rattle.list.specs.List.{offsets, revOf}
-use Rattle.list.specs.Good.{Sound, Passes, Header, Listed}
+use Rattle.list.specs.Good.{Sound, Passes, Listed}
 
 -- i offsets are in the row, the next entry lies at `at`, and the rest of the entries are good
 pub record Filled (f : Family) (s : List ℕ) (n : ℕ) (row₀ row : List ℕ) (at i : ℕ) : Type 0 where

@@ -2,8 +2,7 @@
 use mathlib.Core.Path.{_≡_, refl, sym, ap, ap₂, _∙_}
 use mathlib.Core.Bool.{Bool, true, false, cond, _&&_}
 use mathlib.Core.List.{List, [], _∷_, _++_}
-use Prim.Native.Nat.{ℕ, zero, suc, _+_, _*_, _≤_, _<_}
-use native.Mathlib.Nat.{le-of-suc-le-suc}
+use Prim.Native.Nat.{ℕ, _+_, _*_, _≤_, _<_}
 use native.Mathlib.Numerals.{add-one}
 use native.Mathlib.Omega.{arith}
 use lib.ListN.{length, take, drop, replicate, getD, length-drop, take-append-drop, List·getD-append}
@@ -13,7 +12,7 @@ use borrow.Author.Tests.{eq-eqb, ne-eqb, lt-ltb, eqb-true, leb-true, ltb-true}
 use Rattle.list.specs.Bytes.{Bytes, le, sameBytes}
 use Rattle.list.specs.Identity.{sidLen, isSid, creator, placeholderOf, identityOf, bytesOf, madeOf}
 use Rattle.list.specs.declared.identities.Made.{Made}
-use Rattle.list.proofs.Tests.{both-true, false-or, off}
+use Rattle.list.proofs.Tests.{both-true, false-or}
 use Rattle.list.proofs.Writes.{length-front}
 use Rattle.list.proofs.Little.{le-same, le-drop-append, bytes-drop}
 

@@ -1,6 +1,6 @@
 -- Laws of bytes put on the front of a buffer.
 use mathlib.Core.Path.{_≡_, refl, sym, ap, ap₂, _∙_}
-use mathlib.Core.List.{List, [], _∷_, _++_, append-assoc, append-nil}
+use mathlib.Core.List.{List, _++_, append-assoc, append-nil}
 use Prim.Native.Nat.{ℕ, suc, _+_, _-_, _≤_, _<_, min}
 use native.Mathlib.Nat.{le-of-lt, le-refl, lt-of-not-le, min-eq-left, min-eq-right}
 use native.Mathlib.Decide.{decLe}

@@ -1,12 +1,11 @@
 -- A whole list: its header, its entries one after the other, their offsets, and what the reader answers.
 use Prim.Native.Nat.{ℕ, zero, suc, _+_}
 use mathlib.Core.List.{List, [], _∷_, _++_, flatten}
-use mathlib.Core.Bool.{Bool, true, false, cond, _&&_, _||_}
+use mathlib.Core.Bool.{Bool, cond, _&&_, _||_}
 use lib.ListN.{length, getD, take, drop}
 use lib.Dec.{eqb, leb}
 use Rattle.list.specs.Bytes.{le, spell}
 use Rattle.list.specs.Entry.{Family, sizeOf, entryOf}
-use Rattle.list.specs.declared.entries.Entry.{Entry}
 use Rattle.list.specs.declared.entries.Checked.{Checked}
 use Rattle.list.specs.declared.entries.Checked.the-variants.{Good, Bad}
 use Rattle.list.specs.declared.lists.Reading.{Reading}

@@ -3,10 +3,10 @@ use mathlib.Core.Path.{_≡_, refl, sym, ap, _∙_}
 use mathlib.Core.Bool.{true}
 use mathlib.Core.List.{List, [], _∷_, _++_, flatten}
 use mathlib.Core.Option.{Option, some}
-use Prim.Native.Nat.{ℕ, _+_}
+use Prim.Native.Nat.{ℕ}
 use lib.ListN.{drop, replicate}
 use Rattle.list.specs.Bytes.{le, spell, sameBytes, guidAt, part, putAt}
-use Rattle.list.specs.Identity.{sidLen, isSid, creator, placeholderOf, identityOf}
+use Rattle.list.specs.Identity.{sidLen, isSid, placeholderOf, identityOf}
 use Rattle.list.specs.Entry.{plainOf, objectOf, objectKind, kindOk, flagsOk, headOf, wordAfter, entryBytes, tailOk, need, entryOf}
 use Rattle.list.specs.List.{revOk, headerOk, cut, entriesOf, headBytes, render, onGood, walkOf, finish, checkOf}
 use Rattle.inherit.specs.Given.{Optional, absent, present, entriesIf, typesOk, typesOf}
@@ -14,6 +14,7 @@ use Rattle.inherit.specs.Copies.{anyHeritable, among, typeApplies, pass, kept, 
 use Rattle.inherit.specs.Last.{inPlace, mapped, resolved, lastOf, lastStep}
 use Rattle.inherit.specs.Branch.{inheritedBit, withCreator, fromDefault, branch, resultOf}
 use Rattle.inherit.specs.Compute.{anyObject, withRoom, need as needed, onReading, readable, ruleOk, computeOf, bytesFor}
+use Rattle.inherit.proofs.Worked.{system, parentWith}
 use Rattle.tree.specs.Held.{bytesIn, idIn, idFor, slotFor, blockFor}
 use Rattle.tree.specs.Room.{settingsFor}
 use Rattle.tree.specs.Formed.{placed}
@@ -21,6 +22,7 @@ use Rattle.tree.specs.Work.{computed}
 use Rattle.tree.specs.Calls.{short, list, mark, owners, editAt, editBytes, nobody}
 use Rattle.tree.specs.History.{edit, undo, bind, rest, replay, afresh, noted, unnoted, next, remains}
 use Rattle.tree.specs.Replay.{alter, reads, fine, change, fromRoot, gather, work, rules, shown}
+use Rattle.tree.proofs.Worked.{lists}
 use Rattle.script.specs.declared.records.Found.the-variants.{Cut, Bad, Record}
 use Rattle.script.specs.Record.{nameEnd, listEnd, parentOf, sizeOf, formOk, asked, stepOf}
 use Rattle.script.specs.Fold.{past, onStep, runBy, runOf, onCall, callsBy, callsOf}
@@ -74,41 +76,20 @@ texts-worked = (refl, refl)
 
 -- ---- document 01's own script
 
--- S-1-5-18
-abbrev system : List ℕ
-system = 0x01 ∷ 0x01 ∷ 0 ∷ 0 ∷ 0 ∷ 0 ∷ 0 ∷ 0x05 ∷ 0x12 ∷ 0 ∷ 0 ∷ 0 ∷ []
-
 -- owner and group S-1-5-18
 abbrev names : List ℕ
 names = 12 ∷ (system ++ (12 ∷ system))
-
-abbrev listed : ℕ → ℕ → List (List ℕ) → List ℕ
-listed size count es = 0x02 ∷ 0 ∷ size ∷ 0 ∷ count ∷ 0 ∷ 0 ∷ 0 ∷ flatten es
-
-abbrev entry : ℕ → List ℕ → List ℕ → List ℕ
-entry flags mask sid = 0x00 ∷ flags ∷ 0x14 ∷ 0 ∷ (mask ++ sid)
-
--- a generic read mask as it came, and with the read mapping joined
-abbrev came : List ℕ
-came = 0x00 ∷ 0x00 ∷ 0x00 ∷ 0x80 ∷ []
-
-abbrev joined : List ℕ
-joined = 0x89 ∷ 0x00 ∷ 0x12 ∷ 0x80 ∷ []
 
 -- the worked parent as the root's own list, and one container below
 abbrev records : List ℕ
 records =
     (1 ∷ 0xFF ∷ 1 ∷ 0 ∷ replicate 16 0)
     ++ (names
-    ++ (28 ∷ 0 ∷ (listed 0x1C 1 (entry 0x03 came (creator 0) ∷ [])
+    ++ (28 ∷ 0 ∷ (parentWith 0x03
     ++ ((1 ∷ 0 ∷ 1 ∷ 0 ∷ replicate 16 0) ++ (names ++ (0 ∷ 0 ∷ []))))))
 
 abbrev document : List ℕ
 document = 0x41 ∷ 0x58 ∷ 0x53 ∷ 1 ∷ 0 ∷ records
-
--- 28 bytes with one entry, and 48 with two
-abbrev lists : List Optional
-lists = present (listed 0x1C 1 (entry 0x03 joined system ∷ [])) ∷ present (listed 0x30 2 (entry 0x10 joined system ∷ entry 0x1B joined system ∷ [])) ∷ []
 
 -- its two records are whole, and no byte is left
 whole : endingOf document ≡ Listed (shown (runOf records fresh .room) .lists)

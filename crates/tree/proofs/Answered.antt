@@ -23,7 +23,8 @@ use Rattle.tree.specs.declared.Answer.{Answer}
 use Rattle.tree.specs.Held.{isDone, idIn, ownerOf, groupOf}
 use Rattle.tree.specs.Room.{limit, objects, own, roomFor, limitsOk, roomOf, settingsFor, emptyRoom}
 use Rattle.tree.specs.Formed.{Head, placed, formed}
-use Rattle.tree.specs.Calls.{Outcome, need, refuse, onReading, readable, onObject, nobody, objectFault, addFault, faultBy, faultOf, short, told, startOk, bytesIf, copied, dataOf}
+use Rattle.tree.specs.Calls.{Outcome, need, refuse, onReading, readable, onObject, nobody, short, told, startOk, bytesIf, copied, dataOf}
+use Rattle.tree.specs.Faults.{objectFault, addFault, faultBy, faultOf}
 use Rattle.tree.specs.Replay.{reads}
 use Rattle.tree.proofs.Tested.{head-says, formed-parts}
 use Rattle.tree.proofs.Lays.{Written, write-one, write-next, write-more, length-settings}

@@ -8,11 +8,9 @@ use lib.Seq.{getD-take, length-take-le, take-at}
 use Rattle.list.specs.Bytes.{part, front}
 use Rattle.list.proofs.Places.{part-of-take}
 use Rattle.list.proofs.Writes.{length-front}
-use Rattle.inherit.specs.Given.{Optional}
-use Rattle.tree.specs.Held.{held}
-use Rattle.tree.specs.Room.{limit, depth, objects, kept, ownAt, slotAt, stepsAt, roomFor, settings, own, slot, step, area}
+use Rattle.tree.specs.Room.{limit, depth, ownAt, slotAt, stepsAt, roomFor, settings, own, slot, step, area}
 use Rattle.tree.specs.Formed.{Head}
-use Rattle.tree.specs.Replay.{Blocks, Undo, Tree, tab, undoIn, shown}
+use Rattle.tree.specs.Replay.{tab}
 use Rattle.tree.proofs.Tab.{tab-ext}
 
 -- a room that is its own area
@@ -20,43 +18,15 @@ pub record Ready (w : List ℕ) : Type 0 where
   pub head : Head w
   pub exact : length w ≡ roomFor (limit w) (depth w)
 
--- trees by what they hold, and tables by how many and which
-tree-path : {a b : Blocks} {c d : List Optional} {e f : List Undo} → a ≡ b → c ≡ d → e ≡ f
-    → _≡_ {A = Tree} (record { own = a; lists = c; kept = e }) (record { own = b; lists = d; kept = f })
-tree-path p q r = λ i. record { own = p i; lists = q i; kept = r i }
-
 pub tab-as : {A : Type 0} (n m : ℕ) (f g : ℕ → A) → n ≡ m → ((i : ℕ) → i < m → f i ≡ g i) → tab n f ≡ tab m g
 tab-as n m f g e h = ap (λ (k : ℕ). tab k f) e ∙ tab-ext m f g h
 
-module _ (r : List ℕ) (h : Head r) where
+module _ (r : List ℕ) where
   pub area-byte : (i : ℕ) → i < roomFor (limit r) (depth r) → getD (area r) i 0 ≡ getD r i 0
   area-byte i k = getD-take (roomFor (limit r) (depth r)) r i 0 k
 
   pub area-part : (a k : ℕ) → a + k ≤ roomFor (limit r) (depth r) → part a k (area r) ≡ part a k r
   area-part a k q = part-of-take a k (roomFor (limit r) (depth r)) r q
-
-  pub area-length : length (area r) ≡ roomFor (limit r) (depth r)
-  area-length = length-take-le (roomFor (limit r) (depth r)) r (h .room-enough)
-
-  pub area-ready : Ready (area r)
-  area-ready =
-      let e₀ = area-byte 0 (omega arith) in
-      let e₁ = area-byte 1 (omega arith) in
-      let e₂ = area-byte 2 (omega arith) in
-      let e₃ = area-byte 3 (omega arith) in
-      let l = area-length in
-      record {
-        head = record {
-          long = omega arith;
-          some-limit = rw e₀ (h .some-limit);
-          limit-64 = rw e₀ (h .limit-64);
-          depth-64 = rw e₁ (h .depth-64);
-          within = rw (e₀, e₂) (h .within);
-          kept-within = rw (e₁, e₃) (h .kept-within);
-          room-enough = rw (e₀, e₁) (omega arith);
-        };
-        exact = rw (e₀, e₁) l;
-      }
 
   pub area-settings : settings (area r) ≡ settings r
   unfolding settings
@@ -74,17 +44,29 @@ module _ (r : List ℕ) (h : Head r) where
   unfolding step
   area-step j k = area-part (stepsAt (limit r) + j * 1186) 1186 (omega arith)
 
-  pub shown-area : shown (area r) ≡ shown r
-  unfolding shown
-  shown-area =
-      let e₀ = area-byte 0 (omega arith) in
-      let e₂ = area-byte 2 (omega arith) in
-      let e₃ = area-byte 3 (omega arith) in
-      tree-path
-      (tab-as (objects (area r)) (objects r) (λ i. own i (area r)) (λ i. own i r) e₂ (λ i k. area-own i (omega arith)))
-      (tab-as (objects (area r)) (objects r) (λ i. held (slot i (area r))) (λ i. held (slot i r)) e₂ (λ i k. ap held (area-slot i (omega arith))))
-      (tab-as (kept (area r)) (kept r) (λ j. undoIn (step (limit (area r)) j (area r))) (λ j. undoIn (step (limit r) j r)) e₃
-      (λ j k. ap (λ (n : ℕ). undoIn (step n j (area r))) e₀ ∙ ap undoIn (area-step j (omega arith))))
+module _ (r : List ℕ) (h : Head r) where
+  pub area-length : length (area r) ≡ roomFor (limit r) (depth r)
+  area-length = length-take-le (roomFor (limit r) (depth r)) r (h .room-enough)
+
+  pub area-ready : Ready (area r)
+  area-ready =
+      let e₀ = area-byte r 0 (omega arith) in
+      let e₁ = area-byte r 1 (omega arith) in
+      let e₂ = area-byte r 2 (omega arith) in
+      let e₃ = area-byte r 3 (omega arith) in
+      let l = area-length in
+      record {
+        head = record {
+          long = omega arith;
+          some-limit = rw e₀ (h .some-limit);
+          limit-64 = rw e₀ (h .limit-64);
+          depth-64 = rw e₁ (h .depth-64);
+          within = rw (e₀, e₂) (h .within);
+          kept-within = rw (e₁, e₃) (h .kept-within);
+          room-enough = rw (e₀, e₁) (omega arith);
+        };
+        exact = rw (e₀, e₁) l;
+      }
 
   -- w written over the room's area
   module _ (w : List ℕ) (l : length w ≡ roomFor (limit r) (depth r)) where

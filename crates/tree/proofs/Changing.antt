@@ -19,7 +19,8 @@ use Rattle.tree.specs.declared.tests.Fault.{Fault}
 use Rattle.tree.specs.Held.{New, held, blockFor}
 use Rattle.tree.specs.Room.{limit, objects, kept, ownAt, own, slot, step, numberOf, area}
 use Rattle.tree.specs.Formed.{Head, standing, formed}
-use Rattle.tree.specs.Calls.{Outcome, refuse, need, readable, short, told, popped, settled, changed, latest, undone, finish, finishUndo, Edit, list, mark, owners, editAt, editBytes, tested, addTo, alterTo, undoTo, objectFault, addFault, faultOf}
+use Rattle.tree.specs.Calls.{Outcome, refuse, need, readable, short, told, popped, settled, changed, latest, undone, finish, finishUndo, Edit, list, mark, owners, editAt, editBytes, tested, addTo, alterTo, undoTo}
+use Rattle.tree.specs.Faults.{objectFault, addFault, faultOf}
 use Rattle.tree.proofs.Tested.{head-says, Forms, formed-parts, standing-most}
 use Rattle.tree.proofs.Applied.{Adds, Again, step-facts, steps-off}
 use Rattle.tree.proofs.Answered.{settle, need-yes, need-no, formed-head, readable-good, readable-bad, on-object-good, on-object-bad, object-facts, add-good, add-bad, add-facts}
@@ -48,7 +49,7 @@ undo-none r o e = rw e (refl, refl)
 
 -- it lies in the area
 latest-area : (r : List ℕ) → Head r → 0 < kept r → latest (area r) ≡ latest r
-latest-area r h k = rw (area-byte r h 0 (omega arith)) (area-step r h 0 (omega arith))
+latest-area r h k = rw (area-byte r 0 (omega arith)) (area-step r 0 (omega arith))
 
 -- as the code finds it: the object's number, what it puts back, and how many objects stand then
 module _ (r : List ℕ) (h : Head r) (n c j m : ℕ) (u b : List ℕ) (en : n ≡ limit r) (eu : u ≡ step n 0 r) (ej : j ≡ numberOf u) (eb : b ≡ part 2 1184 u) (ec : c ≡ objects r)
@@ -67,7 +68,7 @@ module _ (r : List ℕ) (h : Head r) (n c j m : ℕ) (u b : List ℕ) (en : n �
   unfolding undone
   undone-is w k e =
       let z : latest (area r) ≡ u = latest-area r h k ∙ latest-is in
-      let o : objects (area r) ≡ c = area-byte r h 2 (omega arith) ∙ sym ec in
+      let o : objects (area r) ≡ c = area-byte r 2 (omega arith) ∙ sym ec in
       rw (z, o, e, ej, eb, em)
 
 -- in a well-formed room it is of an object within the limit

@@ -11,10 +11,10 @@ use Rattle.list.proofs.Places.{length-put, part-put-same, part-put-before, part
 use Rattle.list.proofs.Tests.{both-true}
 use Rattle.inherit.specs.Given.{Optional}
 use Rattle.inherit.specs.Compute.{ordinary}
-use Rattle.tree.specs.Held.{slotFor, idFor, parentOf, kindOf, markOf, typeOf, ownerOf, groupOf, ownSlot, ownList, blockOk, alike, yes}
+use Rattle.tree.specs.Held.{slotFor, idFor, parentOf, kindOf, markOf, typeOf, ownerOf, groupOf, ownSlot, ownList, blockOk, yes}
 use Rattle.tree.specs.Calls.{Edit, list, mark, owners, editAt, editBytes, short}
 use Rattle.tree.specs.Replay.{reads, fine}
-use Rattle.tree.proofs.Applied.{Alike, alike-sym, alike-said}
+use Rattle.tree.proofs.Applied.{Alike}
 use Rattle.tree.proofs.Lays.{length-slot}
 use Rattle.tree.proofs.Slots.{held-slot, slot-good, id-length, id-held, id-good}
 use Rattle.tree.proofs.Blocks.{part-all, part-first, part-past, type-part, Laid, Shows, block-sound, laid-good, laid-shows, yes-bit}
@@ -110,9 +110,6 @@ module _ (b : List ℕ) (n : length b ≡ 1184) where
   owners-shows o g ho hg = laid-shows (owners-laid o g ho hg) (id-held o ho) (id-held g hg) refl
 
   -- any of them
-  pub edit-length : (e : Edit) → fine e ≡ true → length (edited e b) ≡ 1184
-  edit-length e h = length-put (editAt e) (editBytes e) b (omega (arith, edit-fits e h)) ∙ n
-
   pub edit-keeps : (e : Edit) → fine e ≡ true → Alike (edited e b) b
   unfolding fine
   edit-keeps (list o) h =
@@ -125,12 +122,6 @@ module _ (b : List ℕ) (n : length b ≡ 1184) where
       let f = both-true (ordinary o) (ordinary g) h in
       let x = owners-laid o g (f .0) (f .1) in
       record { parent = x .parent; kind = x .kind; type = x .type }
-
-  pub edit-alike : (e : Edit) → fine e ≡ true → alike (edited e b) b ≡ true
-  edit-alike e h = alike-said (edit-keeps e h)
-
-  pub alike-edit : (e : Edit) → fine e ≡ true → alike b (edited e b) ≡ true
-  alike-edit e h = alike-said (alike-sym (edit-keeps e h))
 
   pub edit-good : (e : Edit) → fine e ≡ true → blockOk b ≡ true → blockOk (edited e b) ≡ true
   unfolding fine

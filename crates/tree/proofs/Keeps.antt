@@ -91,10 +91,10 @@ module _ (r : List ℕ) (F : Formed r) (w : List ℕ) (n : ℕ) (f : ℕ → Lis
   long = B .size ∙ area-length r h
 
   w-limit : limit w ≡ limit r
-  w-limit = B .limits ∙ area-byte r h 0 (omega arith)
+  w-limit = B .limits ∙ area-byte r 0 (omega arith)
 
   w-depth : depth w ≡ depth r
-  w-depth = B .depths ∙ area-byte r h 1 (omega arith)
+  w-depth = B .depths ∙ area-byte r 1 (omega arith)
 
   byte : (i : ℕ) → i < roomFor (limit r) (depth r) → getD (front w r) i 0 ≡ getD w i 0
   byte = front-byte r h w long
@@ -130,19 +130,19 @@ module _ (r : List ℕ) (F : Formed r) (w : List ℕ) (n : ℕ) (f : ℕ → Lis
   is-area = area-front r h w long w-limit w-depth
 
   pub new-settings : settings (front w r) ≡ settings r
-  new-settings = sym (area-settings (front w r) new-head) ∙ ap settings is-area ∙ B .same-settings ∙ area-settings r h
+  new-settings = sym (area-settings (front w r)) ∙ ap settings is-area ∙ B .same-settings ∙ area-settings r
 
   new-own : (j : ℕ) → j < n → own j (front w r) ≡ f j
-  new-own j q = sym (area-own (front w r) new-head j (omega (arith, new-limit))) ∙ ap (own j) is-area ∙ B .owns j q
+  new-own j q = sym (area-own (front w r) j (omega (arith, new-limit))) ∙ ap (own j) is-area ∙ B .owns j q
 
   new-slot : (j : ℕ) → j < n → slot j (front w r) ≡ slot j w
-  new-slot j q = sym (area-slot (front w r) new-head j (omega (arith, new-limit))) ∙ ap (slot j) is-area
+  new-slot j q = sym (area-slot (front w r) j (omega (arith, new-limit))) ∙ ap (slot j) is-area
 
   new-step : (j : ℕ) → j < k → step (limit (front w r)) j (front w r) ≡ g j
   new-step j q =
-      sym (area-step (front w r) new-head j (omega (arith, new-depth)))
+      sym (area-step (front w r) j (omega (arith, new-depth)))
       ∙ ap (λ (x : List ℕ). step (limit (front w r)) j x) is-area
-      ∙ ap (λ (m : ℕ). step m j w) (new-limit ∙ sym (area-byte r h 0 (omega arith)))
+      ∙ ap (λ (m : ℕ). step m j w) (new-limit ∙ sym (area-byte r 0 (omega arith)))
       ∙ B .stepped j q
 
   pub new-formed : Formed (front w r)

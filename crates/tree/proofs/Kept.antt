@@ -4,12 +4,12 @@ use mathlib.Core.List.{List, _∷_}
 use Prim.Native.Nat.{ℕ, _+_, _-_, _*_, _≤_, _<_, min}
 use native.Mathlib.Omega.{arith}
 use borrow.Author.Tests.{lt-ltb}
-use lib.ListN.{length, getD, take, set}
-use lib.Seq.{getD-take}
+use lib.ListN.{length, take, set}
 use Rattle.list.specs.Bytes.{part, putAt}
 use Rattle.list.proofs.Places.{length-part, part-most, part-of-take, put-whole}
 use Rattle.tree.specs.Room.{limit, depth, kept, stepsAt, roomFor, own, area}
 use Rattle.tree.specs.Calls.{shifted, pushed, popped}
+use Rattle.tree.proofs.Areas.{area-byte, area-own}
 use Rattle.tree.proofs.Tested.{part-within}
 use Rattle.tree.proofs.Lays.{write-one, write-next, write-more}
 
@@ -28,17 +28,9 @@ pub own-most : (i : ℕ) (r b : List ℕ) → b ≡ own i r → length b ≤ 118
 unfolding own
 own-most i r b e = most (1048 + i * 2211) 1184 r b e
 
--- the area begins as the room does
-pub area-byte : (r : List ℕ) (i : ℕ) → i < 4 → getD (area r) i 0 ≡ getD r i 0
-area-byte r i h = getD-take (roomFor (limit r) (depth r)) r i 0 (omega arith)
-
 module _ (r : List ℕ) (n s : ℕ) (en : n ≡ limit r) (es : s ≡ depth r) where
   area-is : area r ≡ take (roomFor n s) r
   area-is = rw (en, es)
-
-  pub area-own : (i : ℕ) → i < n → own i (area r) ≡ own i r
-  unfolding own
-  area-own i h = rw area-is (part-of-take (1048 + i * 2211) 1184 (roomFor n s) r (omega arith))
 
   module _ (w : List ℕ) (lw : length w ≡ roomFor n s) (lr : roomFor n s ≤ length r) where
     pub copy-is : (b w₁ : List ℕ) → b ≡ part 0 (roomFor n s) r → w₁ ≡ putAt 0 b w → w₁ ≡ area r
@@ -78,4 +70,4 @@ module _ (r : List ℕ) (n s : ℕ) (en : n ≡ limit r) (es : s ≡ depth r) wh
       → w₂ ≡ pushed (tag ∷ i ∷ own i (area r)) (area r)
   unfolding pushed
   push-some tag i b w₁ w₂ p h eb e f =
-      f ∙ rw (e, eb, area-own i h, area-byte r 0 (omega arith), area-byte r 1 (omega arith), ← es, ← en, lt-ltb 0 s p)
+      f ∙ rw (e, eb, area-own r i (omega arith), area-byte r 0 (omega arith), area-byte r 1 (omega arith), ← es, ← en, lt-ltb 0 s p)

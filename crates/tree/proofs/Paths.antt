@@ -141,17 +141,6 @@ module _ (e : List ℕ) (d : Blocks) (ordered : Ordered d) where
     unfolding work
     in-order = in-order-from (length d) (length d) (omega arith) (omega arith)
 
--- ---- what working out gives
-
-module _ (e : List ℕ) (d : Blocks) (ls : List Optional) (h : work e d ≡ some ls) where
-  pub work-length : length ls ≡ length d
-  unfolding work
-  work-length = gather-length (length d) (fromRoot e d (length d)) ls h
-
-  pub work-at : (i : ℕ) → i < length d → fromRoot e d (length d) i ≡ some (getD ls i absent)
-  unfolding work
-  work-at = gather-at absent (length d) (fromRoot e d (length d)) ls h
-
 -- ---- one object more at the end: the others' lists stay
 
 -- what stands behind the first n objects doesn't count

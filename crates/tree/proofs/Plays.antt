@@ -2,7 +2,7 @@
 -- refused exactly where the machine refuses, and then with every byte as it was.
 use mathlib.Core.Path.{_≡_, refl, sym, ap, _∙_, subst}
 use mathlib.Core.Bool.{Bool, true, false, cond, _&&_}
-use mathlib.Core.Logic.{_⊎_, ⊎-elim}
+use mathlib.Core.Logic.{⊎-elim}
 use mathlib.Core.List.{List, _∷_}
 use mathlib.Core.Option.{Option, none, some}
 use Prim.Native.Nat.{ℕ, suc, _+_, _-_, _≤_, _<_, min}
@@ -152,24 +152,24 @@ module _ (r : List ℕ) (F : Formed r) where
   g₀ j = step (limit (area r)) j (area r)
 
   a-limit : limit (area r) ≡ limit r
-  a-limit = area-byte r h 0 (omega arith)
+  a-limit = area-byte r 0 (omega arith)
 
   a-depth : depth (area r) ≡ depth r
-  a-depth = area-byte r h 1 (omega arith)
+  a-depth = area-byte r 1 (omega arith)
 
   a-objects : objects (area r) ≡ objects r
-  a-objects = area-byte r h 2 (omega arith)
+  a-objects = area-byte r 2 (omega arith)
 
   a-kept : kept (area r) ≡ kept r
-  a-kept = area-byte r h 3 (omega arith)
+  a-kept = area-byte r 3 (omega arith)
 
   f-is : (j : ℕ) → j < limit r → f₀ j ≡ own j r
   unfolding f₀
-  f-is = area-own r h
+  f-is = area-own r
 
   g-is : (j : ℕ) → j < depth r → g₀ j ≡ step (limit r) j r
   unfolding g₀
-  g-is j q = ap (λ (m : ℕ). step m j (area r)) a-limit ∙ area-step r h j q
+  g-is j q = ap (λ (m : ℕ). step m j (area r)) a-limit ∙ area-step r j q
 
   O₀ : Owned (objects r) f₀
   O₀ = owned-off (objects r) (objects r) (λ j. own j r) f₀ (F .owned) (omega arith) (λ j q. sym (f-is j (omega (arith, h .within))))
@@ -187,7 +187,7 @@ module _ (r : List ℕ) (F : Formed r) where
   unfolding shown
   shown-as =
       let a : tab (objects r) (λ i. own i r) ≡ tab (objects r) f₀ = tab-as _ _ _ f₀ refl (λ j q. sym (f-is j (omega (arith, h .within)))) in
-      let b : tab (objects r) (λ i. held (slot i r)) ≡ tab (objects r) (λ j. held (slot j (area r))) = tab-as _ _ _ (λ j. held (slot j (area r))) refl (λ j q. ap held (sym (area-slot r h j (omega (arith, h .within))))) in
+      let b : tab (objects r) (λ i. held (slot i r)) ≡ tab (objects r) (λ j. held (slot j (area r))) = tab-as _ _ _ (λ j. held (slot j (area r))) refl (λ j q. ap held (sym (area-slot r j (omega (arith, h .within))))) in
       let c : tab (kept r) (λ j. undoIn (step (limit r) j r)) ≡ tab (kept r) (λ j. undoIn (g₀ j)) = tab-as _ _ _ (λ j. undoIn (g₀ j)) refl (λ j q. ap undoIn (sym (g-is j (omega (arith, h .kept-within))))) in
       rw (a, b, c) refl
 
@@ -213,10 +213,10 @@ module _ (r : List ℕ) (F : Formed r) where
   unfolding Told
   settles none n f k g us hn hk O T eu made not-made =
       settled-none (work (settings r) (tab n f)) n f us
-      (sym (work-as (settings r) n f O (omega (arith, h .limit-64))) ∙ rw (← area-settings r h) (not-made refl))
+      (sym (work-as (settings r) n f O (omega (arith, h .limit-64))) ∙ rw (← area-settings r) (not-made refl))
   settles (some w) n f k g us hn hk O T eu made not-made =
       let B = made w refl in
-      let e : work (settings r) (tab n f) ≡ some (tab n (λ j. held (slot j w))) = sym (work-as (settings r) n f O (omega (arith, h .limit-64))) ∙ rw (← area-settings r h) (B .lists) in (
+      let e : work (settings r) (tab n f) ≡ some (tab n (λ j. held (slot j w))) = sym (work-as (settings r) n f O (omega (arith, h .limit-64))) ∙ rw (← area-settings r) (B .lists) in (
         new-formed r F w n f k g B hn hk O T,
         (
           new-limit r F w n f k g B hn hk O T,

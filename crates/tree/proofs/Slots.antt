@@ -20,7 +20,6 @@ use Rattle.inherit.specs.Compute.{ordinary}
 use Rattle.tree.specs.Held.{hasList, bytesIn, held, slotFor, isDone, slotOk, idIn, idFor, idOk}
 use Rattle.tree.specs.Calls.{short}
 use Rattle.tree.specs.Replay.{reads}
-use Rattle.tree.proofs.Tested.{bytes-most}
 use Rattle.tree.proofs.Lays.{length-padded, length-id}
 
 -- bytes with zeros behind them
@@ -76,15 +75,7 @@ slot-good (present s) h r =
     let m = leb-true (length s) 1024 h in
     tagged (slotFor (present s)) (slot-tag s) ∙ rw (slot-size s m, slot-bytes s m, h) r
 
--- what a slot holds is short, and reads as done where the slot is good
-pub slot-short : (s : List ℕ) → short (held s) ≡ true
-unfolding short
-slot-short s = by (hasList s)
-  where
-    by : (b : Bool) → short (lent b (bytesIn s)) ≡ true
-    by true = le-leb (length (bytesIn s)) 1024 (bytes-most s)
-    by false = refl
-
+-- what a good slot holds reads as done
 pub slot-reads : (s : List ℕ) → slotOk s ≡ true → reads (held s) ≡ true
 unfolding reads
 slot-reads s h = by (hasList s) refl

@@ -15,7 +15,6 @@ use Rattle.inherit.specs.declared.Mapping.{Mapping}
 use Rattle.inherit.specs.Given.{Optional, absent, present}
 use Rattle.inherit.specs.Compute.{ordinary, ruleOk}
 use Rattle.tree.specs.declared.Answer.{Answer}
-use Rattle.tree.specs.declared.tests.Fault.{Fault}
 use Rattle.tree.specs.declared.Answer.the-variants.{Done, Refused}
 use Rattle.tree.specs.Held.{New, held, slotFor, idFor, blockFor, yes, ownerOf, groupOf, ownList}
 use Rattle.tree.specs.Room.{limit, depth, objects, kept, ownAt, stepsAt, roomFor, limitsOk, own, slot, step, numberOf, savedIn, area, emptyRoom}
@@ -194,19 +193,3 @@ dataTo i r out = onObject r i out (copied (Done (length (dataOf (own i r))) true
 -- how many objects stand and how many steps are kept
 unfoldable pub countsTo : List ℕ → Answer
 countsTo r = cond (formed r) (Done (objects r) true (kept r)) (Refused 13 0 0)
-
--- ---- how the code finds a refusal: its number, 0 for none. Only private functions' contracts cite what follows
-
-unfoldable pub objectFault : List ℕ → ℕ → ℕ
-objectFault r i = cond (formed r) (cond (ltb i (objects r)) 0 9) 13
-
-unfoldable pub addFault : List ℕ → ℕ → ℕ
-addFault r p = cond (formed r) (cond (placed nobody (λ j. own j r) (objects r) p) (cond (ltb (objects r) (limit r)) 0 10) 9) 13
-
-unfoldable pub faultBy : Reading → Fault
-faultBy (Read len n) = record { number = 0; offset = 0 }
-faultBy (Unread k at) = record { number = k; offset = at }
-
-unfoldable pub faultOf : Optional → Fault
-faultOf absent = record { number = 0; offset = 0 }
-faultOf (present s) = faultBy (checkOf access s)

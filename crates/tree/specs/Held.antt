@@ -1,5 +1,5 @@
 -- What the parts of a room hold (docs/ROOM.md): a slot, an identity, own data of an object.
-use Prim.Native.Nat.{ℕ, _+_, _-_, min}
+use Prim.Native.Nat.{ℕ, _-_, min}
 use mathlib.Core.List.{List, [], _∷_, _++_}
 use mathlib.Core.Bool.{Bool, true, false, cond, _&&_, _||_}
 use lib.ListN.{length, getD, drop, replicate}

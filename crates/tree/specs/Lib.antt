@@ -3,6 +3,7 @@ pub mod Room
 pub mod Formed
 pub mod Work
 pub mod Calls
+pub mod Faults
 pub mod History
 pub mod Replay
 pub mod Played

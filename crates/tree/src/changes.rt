@@ -19,6 +19,11 @@ use crate::steps::push;
 use crate::work::settle;
 use list::part_of;
 
+// The area of the largest tree, and of one of 16 objects and 16 steps: an array is cleared whole at each change, so small trees have a small one.
+const LARGEST: usize = 218456;
+
+const SMALLER: usize = 55400;
+
 // How much of the room its limits take up.
 fn area_of(r: &[u8]) -> usize
     ensures { λ n. ⌜ n ≡ roomFor (limit (now (r .entry))) (depth (now (r .entry))) ⌝ }
@@ -76,8 +81,12 @@ pub(crate) fn change(r: &mut [u8], tag: u8, i: usize, at: usize, b: &[u8], n: us
     ensures { λ a. ⌜ (a ≡ finish i (now (r .entry)) (changed tag i at (now (b .entry)) n (area (now (r .entry)))) .answer) × (now (r .exit) ≡ finish i (now (r .entry)) (changed tag i at (now (b .entry)) n (area (now (r .entry)))) .bytes) ⌝ }
 {
     let end = area_of(r);
-    let mut w = [0u8; 218456];
     let mut out = [0u8; 1024];
+    if end <= SMALLER {
+        let mut w = [0u8; SMALLER];
+        return change_in(r, &mut w[0..end], &mut out[0..1024], tag, i, at, b, n);
+    }
+    let mut w = [0u8; LARGEST];
     change_in(r, &mut w[0..end], &mut out[0..1024], tag, i, at, b, n)
 }
 
@@ -124,7 +133,11 @@ pub(crate) fn take_back(r: &mut [u8]) -> Answer
     ensures { λ a. ⌜ (a ≡ finishUndo (now (r .entry)) (undone (area (now (r .entry)))) .answer) × (now (r .exit) ≡ finishUndo (now (r .entry)) (undone (area (now (r .entry)))) .bytes) ⌝ }
 {
     let end = area_of(r);
-    let mut w = [0u8; 218456];
     let mut out = [0u8; 1024];
+    if end <= SMALLER {
+        let mut w = [0u8; SMALLER];
+        return undo_in(r, &mut w[0..end], &mut out[0..1024]);
+    }
+    let mut w = [0u8; LARGEST];
     undo_in(r, &mut w[0..end], &mut out[0..1024])
 }

@@ -12,7 +12,7 @@ use Rattle.inherit.specs.declared.Computed.{Computed}
 use Rattle.inherit.specs.declared.Computed.the-variants.{Refused}
 use Rattle.inherit.specs.Given.{lent, typesOk}
 use Rattle.inherit.specs.Compute.{ordinary, ruleOk, bytesFor, outBy, givenFor, resultFor}
-use Rattle.inherit.specs.Source.{sourceOf, Found, Tested}
+use Rattle.inherit.specs.Source.{sourceOf}
 use Rattle.inherit.proofs.Refusals.{bad-rule, bad-parent, bad-creator, bad-default, bad-owner, bad-group, bad-types, all-good}
 use Rattle.inherit.proofs.compute.Statement.{statement}
 use Rattle.inherit.proofs.compute.Tie as tie

@@ -2,18 +2,16 @@
 use borrow.Author.Needs.{needs}
 use native.Mathlib.Omega.{arith}
 use mathlib.Core.Path.{_≡_, sym, ap, ap₂, subst, _∙_}
-use mathlib.Core.Bool.{Bool}
 use mathlib.Core.List.{List}
-use Prim.Native.Nat.{ℕ, _/_, _≤_}
+use Prim.Native.Nat.{ℕ}
 use denote.Ref.{now}
-use lib.ListN.{length, take}
+use lib.ListN.{length}
 use lib.Seq.{length-take-le}
 use Rattle.inherit.specs.declared.whole.Part.{Part}
 use Rattle.inherit.specs.declared.whole.Parts.{Parts}
 use Rattle.inherit.specs.Given.{Given}
-use Rattle.inherit.specs.Compute.{withRoom, bytesFor, outBy, givenFor, resultFor}
-use Rattle.inherit.specs.Emit.{givenBy}
-use Rattle.inherit.specs.Plan.{gathered, resultBy, Ready, Filled}
+use Rattle.inherit.specs.Compute.{withRoom, bytesFor, outBy}
+use Rattle.inherit.specs.Plan.{gathered, resultBy, Ready}
 use Rattle.inherit.proofs.Runs.{partsOf, held, four-most, parent-passes, ready, run-is, given-is}
 use Rattle.inherit.proofs.run.Statement.{statement}
 use Rattle.inherit.proofs.run.Tie as tie

@@ -4,11 +4,11 @@ use native.Mathlib.Omega.{arith}
 use mathlib.Core.Path.{_≡_, sym, ap, subst, _∙_}
 use mathlib.Core.Bool.{Bool, _||_}
 use mathlib.Core.List.{List}
-use Prim.Native.Nat.{ℕ, _+_, _-_, _≤_}
+use Prim.Native.Nat.{ℕ, _+_, _-_}
 use denote.Ref.{now}
-use lib.ListN.{length, drop, length-drop}
+use lib.ListN.{drop, length-drop}
 use Rattle.list.specs.Entry.{access, sizeOf}
-use Rattle.list.specs.Good.{Sound, Passes}
+use Rattle.list.specs.Good.{Sound}
 use Rattle.list.proofs.Rows.{passes-turn}
 use Rattle.inherit.specs.Copies.{heritable}
 use Rattle.inherit.proofs.Loops.{rest-is}

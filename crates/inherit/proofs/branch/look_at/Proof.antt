@@ -2,12 +2,10 @@
 use borrow.Author.Needs.{needs}
 use native.Mathlib.Omega.{arith}
 use mathlib.Core.Path.{_≡_, sym, ap, _∙_}
-use mathlib.Core.Bool.{Bool}
 use Prim.Native.Nat.{ℕ}
 use denote.Ref.{now}
 use Rattle.list.specs.Entry.{access, fieldsOf}
 use Rattle.list.specs.declared.entries.Entry.{Entry}
-use Rattle.list.specs.declared.entries.Checked.the-variants.{Good, Bad}
 use Rattle.list.proofs.Cases.{fields, is-good}
 use Rattle.inherit.specs.Given.{has}
 use Rattle.inherit.proofs.branch.look_at.Statement.{statement}

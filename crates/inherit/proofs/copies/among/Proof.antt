@@ -2,10 +2,9 @@
 use borrow.Author.Needs.{needs}
 use native.Mathlib.Omega.{arith}
 use mathlib.Core.Path.{_≡_, sym, ap, _∙_}
-use mathlib.Core.Bool.{Bool, true, _||_}
-use mathlib.Core.List.{List, []}
-use Prim.Native.Nat.{ℕ, _+_, _≤_, _-_}
-use lib.ListN.{length, take, drop, getD}
+use mathlib.Core.Bool.{Bool, _||_}
+use Prim.Native.Nat.{_+_, _≤_, _-_}
+use lib.ListN.{length, take, drop}
 use Rattle.inherit.specs.Copies.{among}
 use Rattle.inherit.proofs.Types.{among-step, among-end}
 use Rattle.inherit.proofs.copies.among.Statement.{statement}

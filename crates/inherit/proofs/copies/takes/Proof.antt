@@ -1,8 +1,7 @@
 -- Each pass by its own test. Assumes nothing.
 use borrow.Author.Needs.{needs}
-use mathlib.Core.Path.{_≡_, sym, ap, _∙_}
+use mathlib.Core.Path.{ap, _∙_}
 use mathlib.Core.Bool.{not, _&&_}
-use denote.Ref.{now}
 use Rattle.list.specs.declared.entries.Entry.{Entry}
 use Rattle.inherit.specs.Given.{has}
 use Rattle.inherit.specs.Copies.{takesSecond}

@@ -1,14 +1,12 @@
 -- Flags, then the type. Assumes nothing.
 use borrow.Author.Needs.{needs}
 use mathlib.Core.Path.{_≡_, sym, ap, _∙_}
-use mathlib.Core.Bool.{Bool, true, false, cond, _&&_}
-use mathlib.Core.List.{List}
-use Prim.Native.Nat.{ℕ}
+use mathlib.Core.Bool.{true, false, cond, _&&_}
 use borrow.Author.Tests.{not-true, not-false}
 use denote.Ref.{now}
 use lib.ListN.{take}
 use Rattle.list.specs.Bytes.{guidAt}
-use Rattle.list.specs.Entry.{objectKind, kindOf, flagsOf, wordOf}
+use Rattle.list.specs.Entry.{objectKind, flagsOf}
 use Rattle.list.specs.declared.entries.Entry.{Entry}
 use Rattle.inherit.specs.Given.{has}
 use Rattle.inherit.specs.Copies.{among, takesFirst, typeApplies}

@@ -1,6 +1,6 @@
 -- Three mappings, one after the other. Assumes nothing.
 use borrow.Author.Needs.{needs}
-use mathlib.Core.Path.{_≡_, ap, _∙_}
+use mathlib.Core.Path.{ap, _∙_}
 use Prim.Native.Nat.{ℕ}
 use Rattle.inherit.specs.Last.{joined, mapped}
 use Rattle.inherit.proofs.last.mapped.Statement.{statement}

@@ -1,6 +1,6 @@
 -- Field by field. Assumes nothing.
 use borrow.Author.Needs.{needs}
-use mathlib.Core.Path.{_≡_, ap}
+use mathlib.Core.Path.{ap}
 use mathlib.Core.Bool.{Bool}
 use Prim.Native.Nat.{_+_}
 use Rattle.inherit.specs.declared.passes.Measure.{Measure}

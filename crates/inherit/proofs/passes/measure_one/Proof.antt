@@ -2,17 +2,15 @@
 use borrow.Author.Needs.{needs}
 use native.Mathlib.Omega.{arith}
 use mathlib.Core.Path.{_≡_, refl, sym, ap, _∙_}
-use mathlib.Core.Bool.{Bool, true, false}
-use Prim.Native.Nat.{ℕ, _+_}
+use mathlib.Core.Bool.{true, false}
+use Prim.Native.Nat.{_+_}
 use borrow.Author.Tests.{not-true, not-false}
 use denote.Ref.{now}
-use lib.ListN.{length, drop}
+use lib.ListN.{drop}
 use lib.Seq.{getD-drop}
 use Rattle.list.proofs.Little.{le-lt}
-use Rattle.list.specs.Entry.{access, fieldsOf}
 use Rattle.list.specs.declared.entries.Entry.{Entry}
-use Rattle.inherit.specs.declared.passes.Measure.{Measure}
-use Rattle.inherit.specs.Emit.{Lies, takesBy, givenBy}
+use Rattle.inherit.specs.Emit.{takesBy, givenBy}
 use Rattle.inherit.proofs.One.{measures, lies, gives-none, gives-one}
 use Rattle.inherit.proofs.passes.measure_one.Statement.{statement}
 use Rattle.inherit.proofs.passes.measure_one.Tie as tie

@@ -1,13 +1,13 @@
 -- What was measured, with what is still to come, is the measure of all (`Measuring`). Assumes nothing.
 use native.Mathlib.Omega.{arith}
 use mathlib.Core.Path.{_≡_, sym, ap, subst, _∙_}
-use mathlib.Core.List.{List, _++_, flatten}
+use mathlib.Core.List.{List}
 use Prim.Native.Nat.{ℕ, _+_, _-_, _≤_}
 use denote.Ref.{now}
-use lib.ListN.{length, take, drop, length-drop}
-use Rattle.list.specs.Bytes.{Bytes, front}
+use lib.ListN.{drop}
+use Rattle.list.specs.Bytes.{Bytes}
 use Rattle.list.specs.Entry.{access, sizeOf}
-use Rattle.list.specs.Good.{Sound, Passes}
+use Rattle.list.specs.Good.{Sound}
 use Rattle.list.proofs.Little.{le-lt, bytes-drop}
 use Rattle.inherit.specs.Emit.{givenBy, emitOf, measureOf, both}
 use Rattle.inherit.specs.declared.passes.Measure.{Measure}

@@ -1,13 +1,10 @@
 -- A good entry, since the entry is sound. Assumes nothing.
 use borrow.Author.Needs.{needs}
 use native.Mathlib.Omega.{arith}
-use mathlib.Core.Path.{_≡_, sym, ap, _∙_}
-use mathlib.Core.List.{List}
+use mathlib.Core.Path.{_≡_, sym, _∙_}
 use Prim.Native.Nat.{ℕ}
 use denote.Ref.{now}
-use Rattle.list.specs.Entry.{access, entryOf, fieldsOf}
-use Rattle.list.specs.declared.entries.Entry.{Entry}
-use Rattle.list.specs.declared.entries.Checked.the-variants.{Good, Bad}
+use Rattle.list.specs.Entry.{access, fieldsOf}
 use Rattle.list.proofs.Cases.{fields, is-good}
 use Rattle.inherit.proofs.passes.pick.Statement.{statement}
 use Rattle.inherit.proofs.passes.pick.Tie as tie

@@ -1,17 +1,17 @@
 -- An entry that is taken or not, in the fields that `pick` found. Assumes nothing.
 use borrow.Author.Needs.{needs}
 use native.Mathlib.Omega.{arith}
-use mathlib.Core.Path.{_≡_, refl, sym, ap, ap₂, _∙_}
-use mathlib.Core.Bool.{Bool, true, false}
-use mathlib.Core.List.{List, [], flatten}
-use Prim.Native.Nat.{ℕ, _+_}
+use mathlib.Core.Path.{_≡_, sym, ap, ap₂, _∙_}
+use mathlib.Core.Bool.{true, false}
+use mathlib.Core.List.{List}
+use Prim.Native.Nat.{ℕ}
 use borrow.Author.Tests.{not-true, not-false}
 use denote.Ref.{now}
 use lib.ListN.{length}
 use Rattle.list.specs.Bytes.{front}
-use Rattle.list.specs.Entry.{access, fieldsOf, middleOf, tailOf, entryBytes}
+use Rattle.list.specs.Entry.{middleOf, tailOf, entryBytes}
 use Rattle.list.specs.declared.entries.Entry.{Entry}
-use Rattle.inherit.specs.Emit.{Lies, takesBy, givenBy, putIn, emitOf}
+use Rattle.inherit.specs.Emit.{takesBy, givenBy, putIn}
 use Rattle.inherit.proofs.One.{lies, writes-none, length-one, writes-one}
 use Rattle.inherit.proofs.passes.write_one.Statement.{statement}
 use Rattle.inherit.proofs.passes.write_one.Tie as tie

@@ -5,12 +5,10 @@ use mathlib.Core.List.{List, _++_, flatten}
 use Prim.Native.Nat.{ℕ, _+_, _-_, _≤_}
 use denote.Ref.{now}
 use lib.ListN.{length, take, drop, length-drop}
-use Rattle.list.specs.Bytes.{Bytes, front}
+use Rattle.list.specs.Bytes.{front}
 use Rattle.list.specs.Entry.{access, sizeOf}
-use Rattle.list.specs.Good.{Sound, Passes}
-use Rattle.list.proofs.Little.{le-lt, bytes-drop}
-use Rattle.inherit.specs.Emit.{givenBy, emitOf, measureOf, both}
-use Rattle.inherit.specs.declared.passes.Measure.{Measure}
+use Rattle.list.specs.Good.{Sound}
+use Rattle.inherit.specs.Emit.{givenBy, emitOf}
 use Rattle.inherit.proofs.Loops.{rest-is, next-entry, inside, Writing, writing-none, to-fits, long, one-fits, writing-more, written-all}
 use Rattle.inherit.proofs.passes.write_pass.Statement.{statement}
 use Rattle.inherit.proofs.passes.write_pass.Tie as tie

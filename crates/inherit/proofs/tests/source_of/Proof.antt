@@ -1,13 +1,11 @@
 -- Absent, refused, or read. Assumes nothing.
 use borrow.Author.Needs.{needs}
 use native.Mathlib.Omega.{arith}
-use mathlib.Core.Path.{_≡_, sym, ap, _∙_}
+use mathlib.Core.Path.{_≡_, sym, _∙_}
 use mathlib.Core.Bool.{true, false}
 use borrow.Author.Tests.{not-true, not-false}
 use denote.Ref.{now}
 use Rattle.list.specs.Entry.{access}
-use Rattle.list.specs.List.{revOf, checkOf}
-use Rattle.list.specs.declared.lists.Reading.{Reading}
 use Rattle.list.proofs.Told.{told}
 use Rattle.inherit.specs.Source.{sourceBy, sourceOf}
 use Rattle.inherit.proofs.tests.source_of.Statement.{statement}

@@ -1,21 +1,19 @@
 -- No list, no room, or a header and then all entries. Assumes nothing.
 use borrow.Author.Needs.{needs}
 use native.Mathlib.Omega.{arith}
-use mathlib.Core.Path.{_≡_, sym, ap, subst, _∙_}
-use mathlib.Core.Bool.{true, false}
+use mathlib.Core.Path.{sym, ap, subst, _∙_}
 use mathlib.Core.List.{List, _++_, flatten}
-use Prim.Native.Nat.{ℕ, _+_, _-_, _≤_}
+use Prim.Native.Nat.{ℕ, _+_, _-_}
 use denote.Ref.{now}
 use lib.ListN.{length, take, drop, length-drop}
 use lib.Seq.{length-take-le}
-use Rattle.list.specs.Bytes.{front}
 use Rattle.list.specs.List.{headBytes}
 use Rattle.list.proofs.Writes.{length-front, tail-front}
 use Rattle.list.proofs.Parts.{length-head}
 use Rattle.inherit.specs.declared.passes.Measure.{Measure}
 use Rattle.inherit.specs.declared.Computed.the-variants.{Present}
-use Rattle.inherit.specs.Emit.{givenBy, measureOf}
-use Rattle.inherit.specs.Plan.{gathered, Ready, Filled}
+use Rattle.inherit.specs.Emit.{givenBy}
+use Rattle.inherit.specs.Plan.{gathered, Filled}
 use Rattle.inherit.proofs.Fills.{gathered-eight, fill-absent, fill-short, fill-long, fill-done, header-then}
 use Rattle.inherit.proofs.whole.fill.Statement.{statement}
 use Rattle.inherit.proofs.whole.fill.Tie as tie

@@ -1,15 +1,11 @@
 -- Four passes, and their measures together. Assumes nothing.
 use borrow.Author.Needs.{needs}
 use native.Mathlib.Omega.{arith}
-use mathlib.Core.Path.{_≡_, refl, sym, ap, ap₂, _∙_}
-use mathlib.Core.List.{List, _++_, flatten}
-use Prim.Native.Nat.{ℕ, _+_, _-_, _≤_}
+use mathlib.Core.Path.{ap, ap₂, _∙_}
 use denote.Ref.{now}
-use lib.ListN.{length, take, drop}
 use Rattle.inherit.specs.declared.passes.Measure.{Measure}
 use Rattle.inherit.specs.declared.copies.Pass.the-variants.{First, Second, Own, All}
-use Rattle.inherit.specs.Emit.{givenBy, emitted, measureOf, both}
-use Rattle.inherit.specs.Plan.{Good, Ready}
+use Rattle.inherit.specs.Emit.{givenBy, emitted, both}
 use Rattle.inherit.proofs.Gather.{measure-four}
 use Rattle.inherit.proofs.whole.measure_all.Statement.{statement}
 use Rattle.inherit.proofs.whole.measure_all.Tie as tie

@@ -1,10 +1,9 @@
 -- The pass on the tail, and the whole once the tail is back. Assumes nothing.
 use borrow.Author.Needs.{needs}
-use mathlib.Core.Path.{_≡_, ap, _∙_}
-use mathlib.Core.List.{List, flatten}
+use mathlib.Core.Path.{ap}
+use mathlib.Core.List.{flatten}
 use Prim.Native.Nat.{ℕ, _+_}
 use denote.Ref.{now}
-use lib.ListN.{length}
 use Rattle.inherit.specs.Emit.{givenBy, emitted}
 use Rattle.inherit.proofs.Gather.{onward-tail}
 use Rattle.inherit.proofs.whole.write_next.Statement.{statement}

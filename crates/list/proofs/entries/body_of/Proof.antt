@@ -6,7 +6,6 @@ use Prim.Native.Nat.{ℕ, _+_}
 use denote.Ref.{now}
 use lib.ListN.{drop}
 use borrow.Author.Tests.{eq-eqb, ne-eqb}
-use Rattle.list.specs.Identity.{sidLen}
 use Rattle.list.specs.Entry.{access, tailOk, wordAfter, wordOf, guidsOf, sidAt, sidLenOf, sidEnd}
 use Rattle.list.proofs.Sids.{sid-most}
 use Rattle.list.proofs.Cases.{bad-d, bad-e, bad-f, bad-g, bad-h, good}

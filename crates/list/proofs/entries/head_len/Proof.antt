@@ -1,8 +1,7 @@
 -- An object type, or another. Assumes nothing.
 use borrow.Author.Needs.{needs}
-use mathlib.Core.Path.{_≡_, sym, _∙_}
-use mathlib.Core.Bool.{true, false}
-use Rattle.list.specs.Entry.{objectKind, headOf}
+use mathlib.Core.Path.{sym, _∙_}
+use Rattle.list.specs.Entry.{headOf}
 use Rattle.list.proofs.entries.head_len.Statement.{statement}
 use Rattle.list.proofs.entries.head_len.Tie as tie
 

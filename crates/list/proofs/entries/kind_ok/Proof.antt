@@ -2,7 +2,7 @@
 use borrow.Author.Needs.{needs}
 use mathlib.Core.Path.{_∙_}
 use Rattle.list.proofs.Tests.{tests}
-use Rattle.list.specs.Entry.{plainOf, objectOf, objectKind, kindOk}
+use Rattle.list.specs.Entry.{plainOf, objectKind, kindOk}
 use Rattle.list.proofs.entries.kind_ok.Statement.{statement}
 use Rattle.list.proofs.entries.kind_ok.Tie as tie
 

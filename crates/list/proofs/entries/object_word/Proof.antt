@@ -1,6 +1,6 @@
 -- A head of 12 bytes, or a shorter one. Assumes nothing.
 use borrow.Author.Needs.{needs}
-use mathlib.Core.Path.{_∙_, sym}
+use mathlib.Core.Path.{_∙_}
 use Rattle.list.proofs.Tests.{tests}
 use Rattle.list.specs.Entry.{wordAfter}
 use Rattle.list.proofs.entries.object_word.Statement.{statement}

@@ -1,13 +1,12 @@
 -- Too short, or sixteen bytes that fill the buffer. Assumes nothing.
 use borrow.Author.Needs.{needs}
 use native.Mathlib.Omega.{arith}
-use mathlib.Core.Path.{_≡_, sym, ap, _∙_}
+use mathlib.Core.Path.{_≡_, _∙_}
 use mathlib.Core.List.{List}
 use Prim.Native.Nat.{ℕ, _+_, _-_, _≤_}
 use denote.Ref.{now}
 use lib.ListN.{length, take, drop, replicate, length-drop}
 use lib.Seq.{length-take-le}
-use lib.Dec.{leb}
 use borrow.Author.Tests.{le-leb, lt-leb}
 use Rattle.list.specs.Bytes.{putOn, guidAt}
 use Rattle.list.proofs.Writes.{front-all, put-all}

@@ -1,8 +1,7 @@
 -- A short slice is no SID; of a longer one only the length is left to test. Assumes nothing.
 use borrow.Author.Needs.{needs}
 use native.Mathlib.Omega.{arith}
-use mathlib.Core.Path.{_≡_, sym, ap, _∙_}
-use Prim.Native.Nat.{ℕ}
+use mathlib.Core.Path.{sym, ap, _∙_}
 use denote.Ref.{now}
 use lib.ListN.{length}
 use lib.Dec.{eqb}

@@ -1,7 +1,7 @@
 -- Words that differ say that the bytes do; three that are the same say that twelve bytes are. Assumes nothing.
 use borrow.Author.Needs.{needs}
 use native.Mathlib.Omega.{arith}
-use mathlib.Core.Path.{_≡_, sym, _∙_}
+use mathlib.Core.Path.{sym, _∙_}
 use denote.Ref.{now}
 use Rattle.list.proofs.Sids.{words-differ, words-same}
 use Rattle.list.proofs.identities.same_twelve.Statement.{statement}

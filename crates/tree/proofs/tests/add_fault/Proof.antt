@@ -8,7 +8,8 @@ use denote.Ref.{now}
 use borrow.Author.Tests.{lt-ltb, le-ltb}
 use Rattle.tree.specs.Room.{limit, objects, own}
 use Rattle.tree.specs.Formed.{placed, formed}
-use Rattle.tree.specs.Calls.{nobody, addFault}
+use Rattle.tree.specs.Calls.{nobody}
+use Rattle.tree.specs.Faults.{addFault}
 use Rattle.tree.proofs.Tested.{refused, passed}
 use Rattle.tree.proofs.tests.add_fault.Statement.{statement}
 use Rattle.tree.proofs.tests.add_fault.Tie as tie

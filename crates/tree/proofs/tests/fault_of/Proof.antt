@@ -1,7 +1,7 @@
 -- The reading of a list that is given, else nothing. Assumes nothing.
 use borrow.Author.Needs.{needs}
 use mathlib.Core.Path.{ap, _∙_}
-use Rattle.tree.specs.Calls.{faultBy, faultOf}
+use Rattle.tree.specs.Faults.{faultBy, faultOf}
 use Rattle.tree.proofs.tests.fault_of.Statement.{statement}
 use Rattle.tree.proofs.tests.fault_of.Tie as tie
 

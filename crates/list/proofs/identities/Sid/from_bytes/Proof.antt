@@ -1,14 +1,14 @@
 -- Refused, nothing was put; else the bytes stand before the zeros. Assumes nothing.
 use borrow.Author.Needs.{needs}
 use native.Mathlib.Omega.{arith}
-use mathlib.Core.Path.{_≡_, sym, ap, _∙_}
+use mathlib.Core.Path.{sym, ap, _∙_}
 use mathlib.Core.Bool.{true}
 use mathlib.Core.List.{List}
 use Prim.Native.Nat.{ℕ}
 use borrow.Author.Tests.{not-true, not-false}
 use denote.Ref.{now}
 use lib.ListN.{length, replicate}
-use Rattle.list.specs.Identity.{sidLen, isSid, madeOf}
+use Rattle.list.specs.Identity.{madeOf}
 use Rattle.list.specs.declared.identities.Made.{Made}
 use Rattle.list.proofs.Writes.{put-all}
 use Rattle.list.proofs.Sids.{one-sid, sid-most}

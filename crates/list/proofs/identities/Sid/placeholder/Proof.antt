@@ -1,8 +1,7 @@
 -- The identity's own bytes, or more than an identity holds. Assumes nothing.
 use borrow.Author.Needs.{needs}
 use native.Mathlib.Omega.{arith}
-use mathlib.Core.Path.{_≡_, sym, ap, _∙_}
-use Prim.Native.Nat.{ℕ}
+use mathlib.Core.Path.{_≡_, sym, ap}
 use lib.ListN.{length}
 use lib.Seq.{length-take-le, take-all}
 use Rattle.list.proofs.Sids.{not-twelve}

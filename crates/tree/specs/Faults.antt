@@ -1,0 +1,31 @@
+-- How the code finds a refusal: its number, 0 for none. Only private functions' contracts cite what is here; what a call answers is in Calls.
+use Prim.Native.Nat.{ℕ}
+use mathlib.Core.List.{List}
+use mathlib.Core.Bool.{cond}
+use lib.Dec.{ltb}
+use Rattle.list.specs.Entry.{access}
+use Rattle.list.specs.List.{checkOf}
+use Rattle.list.specs.declared.lists.Reading.{Reading}
+use Rattle.list.specs.declared.lists.Reading.the-variants.{Done as Read, Refused as Unread}
+use Rattle.inherit.specs.Given.{Optional, absent, present}
+use Rattle.tree.specs.declared.tests.Fault.{Fault}
+use Rattle.tree.specs.Room.{limit, objects, own}
+use Rattle.tree.specs.Formed.{placed, formed}
+use Rattle.tree.specs.Calls.{nobody}
+
+-- the room, and an object that stands in it
+unfoldable pub objectFault : List ℕ → ℕ → ℕ
+objectFault r i = cond (formed r) (cond (ltb i (objects r)) 0 9) 13
+
+-- the room, the parent of a new object, and place for it
+unfoldable pub addFault : List ℕ → ℕ → ℕ
+addFault r p = cond (formed r) (cond (placed nobody (λ j. own j r) (objects r) p) (cond (ltb (objects r) (limit r)) 0 10) 9) 13
+
+-- a list that is given or not, by its reading
+unfoldable pub faultBy : Reading → Fault
+faultBy (Read len n) = record { number = 0; offset = 0 }
+faultBy (Unread k at) = record { number = k; offset = at }
+
+unfoldable pub faultOf : Optional → Fault
+faultOf absent = record { number = 0; offset = 0 }
+faultOf (present s) = faultBy (checkOf access s)
