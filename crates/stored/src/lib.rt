@@ -13,7 +13,7 @@ const HASH_PRIME: u64 = 16777619;
 const HASH_BASE: u64 = 4294967296;
 
 // A byte as a 32-bit number.
-fn wide(x: u8) -> u32
+pub fn wide(x: u8) -> u32
     ensures { λ r. ⌜ r < 256 ⌝ }
 {
     x as u32
@@ -24,6 +24,11 @@ pub fn half(low: u8, high: u8) -> u32
     ensures { λ r. ⌜ r < 65536 ⌝ }
 {
     wide(low) + 256 * wide(high)
+}
+
+// The 32-bit number of four bytes, lowest first.
+pub fn word_of(a: u8, b: u8, c: u8, d: u8) -> u32 {
+    half(a, b) + 65536 * half(c, d)
 }
 
 // Fills the bytes from standard input; false where it ends before.
@@ -64,6 +69,10 @@ pub fn print_word(x: u32) {
     io::print_decimal(STDOUT_FILENO, x as u64);
 }
 
+pub fn print_size(x: usize) {
+    io::print_decimal(STDOUT_FILENO, x as u64);
+}
+
 pub fn print_space() {
     io::write_all(STDOUT_FILENO, b" ");
 }
@@ -76,15 +85,43 @@ pub fn print_hash(bytes: &[u8]) {
     io::print_hex(STDOUT_FILENO, hash(bytes) as u64, 8);
 }
 
+fn print_byte(x: u8) {
+    io::print_hex(STDOUT_FILENO, x as u64, 2);
+}
+
+// Two digits for each byte.
+pub fn print_bytes(bytes: &[u8]) {
+    let mut i = 0;
+    while i < bytes.len() {
+        print_byte(bytes[i]);
+        i += 1;
+    }
+}
+
+// The values, with a space between them.
+fn print_each(values: &[u32]) {
+    let mut i = 0;
+    while i < values.len() {
+        if 0 < i {
+            print_space();
+        }
+        print_word(values[i]);
+        i += 1;
+    }
+}
+
+// The answer's first n values, with a space between them; nothing where n is over 8.
+pub fn print_values(answer: [u32; 8], n: usize) {
+    if n <= 8 {
+        print_each(&answer[0..n]);
+    }
+}
+
 // The call's byte and the eight values, with a space between them.
 pub fn print_answer(call: u8, answer: [u32; 8]) {
     print_word(wide(call));
-    let mut i = 0;
-    while i < 8 {
-        print_space();
-        print_word(answer[i]);
-        i += 1;
-    }
+    print_space();
+    print_values(answer, 8);
 }
 
 // The input holds no case.

@@ -1,9 +1,14 @@
 // Runs the stored cases of standard input and writes what each answers, a line for each.
 // A case: a kind byte (3), a zero byte, a 16-bit zero; then 32-bit numbers: the rule, the settings, the four masks of the mapping,
 // the lengths of parent, creator, default, types, owner and group, and the room; then the bytes of those six.
-ghost use Prim.Native.Nat.{_<_};
-use libc::STDIN_FILENO;
-use libc::STDOUT_FILENO;
+use stored::end_line;
+use stored::print_bytes;
+use stored::print_space;
+use stored::print_values;
+use stored::print_word;
+use stored::read;
+use stored::wide;
+use stored::word_of;
 
 const MOST_LIST: usize = 66000;
 
@@ -14,35 +19,12 @@ const MOST_PRINTED: usize = 1024;
 
 const SUM_BASE: u32 = 65521;
 
-fn wide(x: u8) -> u32
-    ensures { λ r. ⌜ r < 256 ⌝ }
-{
-    x as u32
-}
-
-fn print_byte(x: u8) {
-    io::print_hex(STDOUT_FILENO, x as u64, 2);
-}
-
-fn print_word(x: u32) {
-    io::print_decimal(STDOUT_FILENO, x as u64);
-}
-
-fn print_space() {
-    io::write_all(STDOUT_FILENO, b" ");
-}
-
-fn end_line() {
-    io::write_all(STDOUT_FILENO, b"\n");
-}
-
 // The 32-bit number at an offset of the fixed part, lowest byte first.
 fn word(head: &[u8; 56], at: usize) -> u32 {
     if 52 < at {
         return 0;
     }
-    wide(head[at])
-        + 256 * (wide(head[at + 1]) + 256 * (wide(head[at + 2]) + 256 * wide(head[at + 3])))
+    word_of(head[at], head[at + 1], head[at + 2], head[at + 3])
 }
 
 fn size(head: &[u8; 56], at: usize) -> usize {
@@ -61,25 +43,6 @@ fn prepare(out: &mut [u8]) {
     let mut i = 0;
     while i < out.len() {
         out[i] = before(i);
-        i += 1;
-    }
-}
-
-// The seven values, with a space between them.
-fn print_answer(answer: [u32; 8]) {
-    print_word(answer[0]);
-    let mut i = 1;
-    while i < 7 {
-        print_space();
-        print_word(answer[i]);
-        i += 1;
-    }
-}
-
-fn print_bytes(bytes: &[u8]) {
-    let mut i = 0;
-    while i < bytes.len() {
-        print_byte(bytes[i]);
         i += 1;
     }
 }
@@ -140,7 +103,7 @@ fn run_compute<'a>(
         out,
         &mut answer,
     );
-    print_answer(answer);
+    print_values(answer, 7);
     print_space();
     print_result(out);
     end_line();
@@ -152,10 +115,7 @@ fn fill(head: &[u8; 56], at: usize, part: &mut [u8]) -> bool {
     if part.len() < n {
         return false;
     }
-    if io::read_full(STDIN_FILENO, &mut part[0..n]) < n {
-        return false;
-    }
-    true
+    read(&mut part[0..n])
 }
 
 fn fill_lists(head: &[u8; 56], parent: &mut [u8], creator: &mut [u8], default: &mut [u8]) -> bool {
@@ -226,7 +186,7 @@ fn run_case(
     out: &mut [u8],
 ) -> bool {
     let mut head = [0u8; 56];
-    if io::read_full(STDIN_FILENO, &mut head) < 56 {
+    if !read(&mut head) {
         return false;
     }
     if head[0] != 3 {

@@ -1,38 +1,23 @@
 // Runs the stored cases of standard input and writes what each answers, a line for each.
 // A case: a kind byte (1 read a list, 2 identity), a zero byte, the row's length in 16 bits, the payload's length in 32, the payload.
-ghost use Prim.Native.Nat.{_≤_, _<_};
+ghost use Prim.Native.Nat.{_≤_};
 ghost use lib.ListN.{length};
-use libc::STDIN_FILENO;
-use libc::STDOUT_FILENO;
+use stored::end_line;
+use stored::half;
+use stored::print_bytes;
+use stored::print_size;
+use stored::print_space;
+use stored::print_values;
+use stored::print_word;
+use stored::read;
+use stored::word_of;
 
 const MOST_PAYLOAD: usize = 66000;
 
 const MOST_ROW: usize = 4200;
 
-fn wide(x: u8) -> usize
-    ensures { λ r. ⌜ r < 256 ⌝ }
-{
-    x as usize
-}
-
-fn print_byte(x: u8) {
-    io::print_hex(STDOUT_FILENO, x as u64, 2);
-}
-
 fn print_half(x: u16) {
-    io::print_decimal(STDOUT_FILENO, x as u64);
-}
-
-fn print_word(x: u32) {
-    io::print_decimal(STDOUT_FILENO, x as u64);
-}
-
-fn print_space() {
-    io::write_all(STDOUT_FILENO, b" ");
-}
-
-fn end_line() {
-    io::write_all(STDOUT_FILENO, b"\n");
+    print_word(x as u32);
 }
 
 // What element i of the row holds before a call: 65535 - i.
@@ -60,30 +45,11 @@ fn print_row(row: &[u16]) {
     }
 }
 
-// The seven values, with a space between them.
-fn print_answer(answer: [u32; 8]) {
-    print_word(answer[0]);
-    let mut i = 1;
-    while i < 7 {
-        print_space();
-        print_word(answer[i]);
-        i += 1;
-    }
-}
-
-fn print_buffer(bytes: [u8; 68]) {
-    let mut i = 0;
-    while i < 68 {
-        print_byte(bytes[i]);
-        i += 1;
-    }
-}
-
 fn run_read(list: &[u8], row: &mut [u16]) {
     let mut answer = [0u32; 8];
     prepare(row);
     capi::pt_read(list, row, &mut answer);
-    print_answer(answer);
+    print_values(answer, 7);
     print_row(row);
     end_line();
 }
@@ -95,9 +61,9 @@ fn run_identity(bytes: &[u8]) {
     let buffer = sid.bytes;
     print_word(capi::pt_identity(bytes));
     print_space();
-    io::print_decimal(STDOUT_FILENO, len as u64);
+    print_size(len);
     print_space();
-    print_buffer(buffer);
+    print_bytes(&buffer);
     end_line();
 }
 
@@ -106,18 +72,18 @@ fn run_case(payload: &mut [u8], row: &mut [u16]) -> bool
     requires { ⌜ (66000 ≤ length (now payload)) × (4200 ≤ length (now row)) ⌝ }
 {
     let mut head = [0u8; 8];
-    if io::read_full(STDIN_FILENO, &mut head) < 8 {
+    if !read(&mut head) {
         return false;
     }
-    let m = wide(head[2]) + 256 * wide(head[3]);
-    let n = wide(head[4]) + 256 * (wide(head[5]) + 256 * wide(head[6]));
+    let m = half(head[2], head[3]) as usize;
+    let n = word_of(head[4], head[5], head[6], head[7]) as usize;
     if MOST_ROW < m {
         return false;
     }
     if MOST_PAYLOAD < n {
         return false;
     }
-    if io::read_full(STDIN_FILENO, &mut payload[0..n]) < n {
+    if !read(&mut payload[0..n]) {
         return false;
     }
     let kind = head[0];

@@ -9,6 +9,7 @@ use stored::print_answer;
 use stored::print_hash;
 use stored::print_space;
 use stored::read;
+use stored::word_of;
 
 const MOST_SCRIPT: usize = 140000;
 
@@ -55,7 +56,7 @@ fn run_case(script: &mut [u8], out: &mut [u8]) -> bool {
     if !read(&mut head) {
         return false;
     }
-    let n = half(head[0], head[1]) + 65536 * half(head[2], head[3]);
+    let n = word_of(head[0], head[1], head[2], head[3]);
     run_script(n as usize, half(head[4], head[5]) as usize, script, out)
 }
 

@@ -5,16 +5,17 @@
 // 7 set mark: object, mark. 8 set owner: object; owner, group. 9 undo. 10 list, 11 own, 12 data: object, length of `out`.
 // 13 counts. 14 room: objects, steps. 0 is the end.
 ghost use Prim.Native.Nat.{_<_};
-use libc::STDOUT_FILENO;
 use stored::bad;
 use stored::end_line;
 use stored::half;
 use stored::prepare;
 use stored::print_answer;
 use stored::print_hash;
+use stored::print_size;
 use stored::print_space;
 use stored::print_word;
 use stored::read;
+use stored::word_of;
 
 const MOST_ROOM: usize = 220000;
 
@@ -30,7 +31,7 @@ fn word(head: &[u8; 36], at: usize) -> u32 {
     if 32 < at {
         return 0;
     }
-    half(head[at], head[at + 1]) + 65536 * half(head[at + 2], head[at + 3])
+    word_of(head[at], head[at + 1], head[at + 2], head[at + 3])
 }
 
 fn object_type(head: &[u8; 36]) -> [u8; 16] {
@@ -165,10 +166,9 @@ fn run_start(head: &[u8; 36], room: &mut [u8], length: &mut usize, default: &[u8
 }
 
 fn run_room(head: &[u8; 36]) {
-    let n = capi::pt_room(word(head, 0), word(head, 4));
     print_word(14);
     print_space();
-    io::print_decimal(STDOUT_FILENO, n as u64);
+    print_size(capi::pt_room(word(head, 0), word(head, 4)));
     end_line();
 }
 

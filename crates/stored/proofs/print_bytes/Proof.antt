@@ -2,8 +2,8 @@
 use borrow.Author.Needs.{needs}
 use Prim.Native.Nat.{_≤_, _-_}
 use lib.ListN.{length}
-use Rattle.vectors_inherit.proofs.print_bytes.Statement.{statement}
-use Rattle.vectors_inherit.proofs.print_bytes.Tie as tie
+use Rattle.stored.proofs.print_bytes.Statement.{statement}
+use Rattle.stored.proofs.print_bytes.Tie as tie
 
 abbrev Inv-loop : tie.InvT-loop
 Inv-loop bytes i₀ i = i ≤ length bytes
