@@ -118,7 +118,7 @@ void pt_counts(const uint8_t *room, size_t room_len, uint32_t answer[8]);
 /* Plays a whole script held in memory, in a room of its own (16 objects, 16 steps, rule 2), and writes the text that the program
  * axs writes: the listing, or `bad at N`. Refuses with 8 alone, where out is shorter than the text; then out is unchanged.
  * Done: the text's length in place 3; 1 in place 4 where it is the listing, 0 where the script is bad; in place 5 the number of
- * objects in the listing. A listing has at most 203 bytes. Uses some 290 KB of stack. */
+ * objects in the listing. A listing has at most 203 bytes. Uses some 340 KB of stack. */
 void pt_play(const uint8_t *script, size_t script_len, uint8_t *out, size_t out_len, uint32_t answer[8]);
 
 #ifdef __cplusplus

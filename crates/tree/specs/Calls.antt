@@ -104,6 +104,13 @@ unfoldable pub finishUndo : List ℕ → Option (List ℕ) → Outcome
 finishUndo r none = refuse 8 0 0 r
 finishUndo r (some w) = record { answer = Done 0 false 0; bytes = front w r }
 
+-- both, on a room whose tests are passed
+abbrev pub changeTo : ℕ → ℕ → ℕ → List ℕ → ℕ → List ℕ → Outcome
+changeTo tag i at b n r = finish i r (changed tag i at b n (area r))
+
+abbrev pub takeBackTo : List ℕ → Outcome
+takeBackTo r = finishUndo r (undone (area r))
+
 -- ---- the calls
 
 -- "no parent" in a call
@@ -132,7 +139,7 @@ addTo new r =
     (need (ordinary (new .owner)) 6 r
     (need (ordinary (new .group)) 6 r
     (need (short (new .list)) 8 r
-    (finish (objects r) r (changed 1 (objects r) 0 (blockFor new) (objects r + 1) (area r)))))))))
+    (changeTo 1 (objects r) 0 (blockFor new) (objects r + 1) r)))))))
 
 -- what a change alters in an object's own data: its list, its mark, or its owner and group
 pub data Edit : Type 0 where
@@ -159,11 +166,11 @@ tested (owners o g) r rest = need (ordinary o) 6 r (need (ordinary g) 6 r rest)
 
 -- any other change: 13, 9, 1 to 5, 6, 8
 unfoldable pub alterTo : ℕ → Edit → List ℕ → Outcome
-alterTo i e r = onObject r i r (tested e r (finish i r (changed 2 i (editAt e) (editBytes e) (objects r) (area r))))
+alterTo i e r = onObject r i r (tested e r (changeTo 2 i (editAt e) (editBytes e) (objects r) r))
 
 -- undo: 13, 11, 8
 unfoldable pub undoTo : List ℕ → Outcome
-undoTo r = need (formed r) 13 r (need (ltb 0 (kept r)) 11 r (finishUndo r (undone (area r))))
+undoTo r = need (formed r) 13 r (need (ltb 0 (kept r)) 11 r (takeBackTo r))
 
 -- ---- reading back: 13, 9, 8
 

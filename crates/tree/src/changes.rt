@@ -6,7 +6,7 @@ ghost use Prim.Native.Nat.{_+_, _≤_, _<_};
 ghost use lib.ListN.{length};
 ghost use Rattle.tree.specs.Room.{limit, depth, kept, numberOf, roomFor, area};
 ghost use Rattle.tree.specs.Formed.{Head};
-ghost use Rattle.tree.specs.Calls.{changed, latest, undone, finish, finishUndo};
+ghost use Rattle.tree.specs.Calls.{changed, latest, undone, changeTo, takeBackTo};
 ghost use Rattle.tree.specs.History.{isSome};
 use crate::Answer;
 use crate::formed::standing;
@@ -19,10 +19,10 @@ use crate::steps::push;
 use crate::work::settle;
 use list::part_of;
 
-// The area of the largest tree, and of one of 16 objects and 16 steps: an array is cleared whole at each change, so small trees have a small one.
+// The room of the largest tree, and of one of 16 objects and 16 steps, as scripts have it.
 const LARGEST: usize = 218456;
 
-const SMALLER: usize = 55400;
+const SMALL: usize = 55400;
 
 // How much of the room its limits take up.
 fn area_of(r: &[u8]) -> usize
@@ -62,7 +62,7 @@ fn change_in(
 ) -> Answer
     requires { ⌜ Head (now r) × ((length (now w) ≡ roomFor (limit (now r)) (depth (now r))) × (length (now out) ≡ 1024)) ⌝ }
     requires { ⌜ (i < limit (now r)) × ((n ≤ limit (now r)) × (at + length (now b) ≤ 1184)) ⌝ }
-    ensures { λ a. ⌜ (a ≡ finish i (now (r .entry)) (changed tag i at (now (b .entry)) n (area (now (r .entry)))) .answer) × (now (r .exit) ≡ finish i (now (r .entry)) (changed tag i at (now (b .entry)) n (area (now (r .entry)))) .bytes) ⌝ }
+    ensures { λ a. ⌜ (a ≡ changeTo tag i at (now (b .entry)) n (now (r .entry)) .answer) × (now (r .exit) ≡ changeTo tag i at (now (b .entry)) n (now (r .entry)) .bytes) ⌝ }
 {
     if change_copy(r, w, out, tag, i, at, b, n) {
         list::put(r, w);
@@ -75,19 +75,38 @@ fn change_in(
     }
 }
 
+// A change of a small room, and of any: an array is cleared whole each time, so a small room's copy lies in a small one.
+fn change_small(r: &mut [u8], tag: u8, i: usize, at: usize, b: &[u8], n: usize) -> Answer
+    requires { ⌜ Head (now r) × (length (now r) ≤ 55400) ⌝ }
+    requires { ⌜ (i < limit (now r)) × ((n ≤ limit (now r)) × (at + length (now b) ≤ 1184)) ⌝ }
+    ensures { λ a. ⌜ (a ≡ changeTo tag i at (now (b .entry)) n (now (r .entry)) .answer) × (now (r .exit) ≡ changeTo tag i at (now (b .entry)) n (now (r .entry)) .bytes) ⌝ }
+{
+    let end = area_of(r);
+    let mut w = [0u8; SMALL];
+    let mut out = [0u8; 1024];
+    change_in(r, &mut w[0..end], &mut out[0..1024], tag, i, at, b, n)
+}
+
+fn change_large(r: &mut [u8], tag: u8, i: usize, at: usize, b: &[u8], n: usize) -> Answer
+    requires { ⌜ Head (now r) ⌝ }
+    requires { ⌜ (i < limit (now r)) × ((n ≤ limit (now r)) × (at + length (now b) ≤ 1184)) ⌝ }
+    ensures { λ a. ⌜ (a ≡ changeTo tag i at (now (b .entry)) n (now (r .entry)) .answer) × (now (r .exit) ≡ changeTo tag i at (now (b .entry)) n (now (r .entry)) .bytes) ⌝ }
+{
+    let end = area_of(r);
+    let mut w = [0u8; LARGEST];
+    let mut out = [0u8; 1024];
+    change_in(r, &mut w[0..end], &mut out[0..1024], tag, i, at, b, n)
+}
+
 // Puts b at a place of object i's own data, n objects standing then: a change, unless a list would pass 1,024 bytes.
 pub(crate) fn change(r: &mut [u8], tag: u8, i: usize, at: usize, b: &[u8], n: usize) -> Answer
     requires { ⌜ Head (now r) × ((i < limit (now r)) × ((n ≤ limit (now r)) × (at + length (now b) ≤ 1184))) ⌝ }
-    ensures { λ a. ⌜ (a ≡ finish i (now (r .entry)) (changed tag i at (now (b .entry)) n (area (now (r .entry)))) .answer) × (now (r .exit) ≡ finish i (now (r .entry)) (changed tag i at (now (b .entry)) n (area (now (r .entry)))) .bytes) ⌝ }
+    ensures { λ a. ⌜ (a ≡ changeTo tag i at (now (b .entry)) n (now (r .entry)) .answer) × (now (r .exit) ≡ changeTo tag i at (now (b .entry)) n (now (r .entry)) .bytes) ⌝ }
 {
-    let end = area_of(r);
-    let mut out = [0u8; 1024];
-    if end <= SMALLER {
-        let mut w = [0u8; SMALLER];
-        return change_in(r, &mut w[0..end], &mut out[0..1024], tag, i, at, b, n);
+    if r.len() <= SMALL {
+        return change_small(r, tag, i, at, b, n);
     }
-    let mut w = [0u8; LARGEST];
-    change_in(r, &mut w[0..end], &mut out[0..1024], tag, i, at, b, n)
+    change_large(r, tag, i, at, b, n)
 }
 
 // The room's area to w, with the latest change undone.
@@ -110,7 +129,7 @@ fn undo_copy(r: &[u8], w: &mut [u8], out: &mut [u8]) -> bool
 fn undo_in(r: &mut [u8], w: &mut [u8], out: &mut [u8]) -> Answer
     requires { ⌜ Head (now r) × ((length (now w) ≡ roomFor (limit (now r)) (depth (now r))) × (length (now out) ≡ 1024)) ⌝ }
     requires { ⌜ (0 < kept (now r)) × (numberOf (latest (now r)) < limit (now r)) ⌝ }
-    ensures { λ a. ⌜ (a ≡ finishUndo (now (r .entry)) (undone (area (now (r .entry)))) .answer) × (now (r .exit) ≡ finishUndo (now (r .entry)) (undone (area (now (r .entry)))) .bytes) ⌝ }
+    ensures { λ a. ⌜ (a ≡ takeBackTo (now (r .entry)) .answer) × (now (r .exit) ≡ takeBackTo (now (r .entry)) .bytes) ⌝ }
 {
     if undo_copy(r, w, out) {
         list::put(r, w);
@@ -127,17 +146,36 @@ fn undo_in(r: &mut [u8], w: &mut [u8], out: &mut [u8]) -> Answer
     }
 }
 
+// An undo in a small room, and in any.
+fn undo_small(r: &mut [u8]) -> Answer
+    requires { ⌜ Head (now r) × (length (now r) ≤ 55400) ⌝ }
+    requires { ⌜ (0 < kept (now r)) × (numberOf (latest (now r)) < limit (now r)) ⌝ }
+    ensures { λ a. ⌜ (a ≡ takeBackTo (now (r .entry)) .answer) × (now (r .exit) ≡ takeBackTo (now (r .entry)) .bytes) ⌝ }
+{
+    let end = area_of(r);
+    let mut w = [0u8; SMALL];
+    let mut out = [0u8; 1024];
+    undo_in(r, &mut w[0..end], &mut out[0..1024])
+}
+
+fn undo_large(r: &mut [u8]) -> Answer
+    requires { ⌜ Head (now r) ⌝ }
+    requires { ⌜ (0 < kept (now r)) × (numberOf (latest (now r)) < limit (now r)) ⌝ }
+    ensures { λ a. ⌜ (a ≡ takeBackTo (now (r .entry)) .answer) × (now (r .exit) ≡ takeBackTo (now (r .entry)) .bytes) ⌝ }
+{
+    let end = area_of(r);
+    let mut w = [0u8; LARGEST];
+    let mut out = [0u8; 1024];
+    undo_in(r, &mut w[0..end], &mut out[0..1024])
+}
+
 // Takes off the latest change, unless a list would pass 1,024 bytes.
 pub(crate) fn take_back(r: &mut [u8]) -> Answer
     requires { ⌜ Head (now r) × ((0 < kept (now r)) × (numberOf (latest (now r)) < limit (now r))) ⌝ }
-    ensures { λ a. ⌜ (a ≡ finishUndo (now (r .entry)) (undone (area (now (r .entry)))) .answer) × (now (r .exit) ≡ finishUndo (now (r .entry)) (undone (area (now (r .entry)))) .bytes) ⌝ }
+    ensures { λ a. ⌜ (a ≡ takeBackTo (now (r .entry)) .answer) × (now (r .exit) ≡ takeBackTo (now (r .entry)) .bytes) ⌝ }
 {
-    let end = area_of(r);
-    let mut out = [0u8; 1024];
-    if end <= SMALLER {
-        let mut w = [0u8; SMALLER];
-        return undo_in(r, &mut w[0..end], &mut out[0..1024]);
+    if r.len() <= SMALL {
+        return undo_small(r);
     }
-    let mut w = [0u8; LARGEST];
-    undo_in(r, &mut w[0..end], &mut out[0..1024])
+    undo_large(r)
 }
