@@ -1,4 +1,4 @@
-/* Plays the script in a file and writes what it lists, as axs does: 0, or 1 where the script is bad. */
+/* Plays the script in a file of at most 1 MiB and writes the text that axs writes. Exits with 0, or with 1 where it is bad. */
 #include <stdio.h>
 #include "pipeteasel.h"
 

@@ -37,12 +37,12 @@ yesOf n = not (eqb n 0)
 
 -- a new object's traits: 1 container, 2 protected mark, 4 an own list is given
 abbrev pub newOf : ℕ → ℕ → List ℕ → List ℕ → List ℕ → List ℕ → New
-newOf parent traits kind owner group list =
+newOf parent traits type owner group list =
     record {
       parent = parent;
       container = has 1 traits;
       mark = has 2 traits;
-      type = kind;
+      type = type;
       owner = owner;
       group = group;
       list = lent (has 4 traits) list;

@@ -14,7 +14,7 @@ pub data Result : Type 0 where
   none : Result
   some : List (List ℕ) → ℕ → Result
 
--- the control bit of a list that inherited by itself
+-- the control bit of a list that inherited automatically
 unfoldable pub inheritedBit : Family → ℕ
 inheritedBit access = 0x0400
 
@@ -28,7 +28,7 @@ control f s = cond (takesP s) (inheritedBit f) 0
 abbrev pub parentPart : Family → Settings → Given → List (List ℕ) → List (List ℕ)
 parentPart f s g es = cond (takesP s) (fromParent f g es) []
 
--- the parent has an inheritable entry, and the creator's list is present
+-- the parent has an inheritable entry, and the creator's list is present: default descriptor, else rule 1, else rule 2
 unfoldable pub withCreator : Family → Settings → Given → List (List ℕ) → List (List ℕ) → Result
 withCreator f s g parent creator =
     cond (s .defaulted)
@@ -42,11 +42,13 @@ unfoldable pub fromDefault : Given → Optional → Result
 fromDefault g absent = none
 fromDefault g (present d) = some (lastStep g false (entriesIf (present d))) 0
 
+-- the table: whether the parent has an inheritable entry, and whether the creator's list is present
 unfoldable pub branch : Family → Settings → Given → Bool → List (List ℕ) → Optional → Optional → Result
 branch f s g true parent absent default = some (lastStep g true (fromParent f g parent)) 0
 branch f s g true parent (present c) default = withCreator f s g parent (entriesIf (present c))
 branch f s g false parent absent default = fromDefault g default
 branch f s g false parent (present c) default = some (lastStep g false (own (entriesIf (present c)))) 0
 
+-- the list that the parent's, the creator's and the default list give; an absent parent has no inheritable entry
 unfoldable pub resultOf : Family → Settings → Given → Optional → Optional → Optional → Result
 resultOf f s g parent creator default = branch f s g (anyHeritable (entriesIf parent)) (entriesIf parent) creator default

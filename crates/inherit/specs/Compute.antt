@@ -18,11 +18,12 @@ use Rattle.inherit.specs.declared.Computed.the-variants.{Present, Absent
 use Rattle.inherit.specs.Given.{Given, Optional, absent, present, lent, typesOk, typesOf}
 use Rattle.inherit.specs.Branch.{Result, none, some, resultOf}
 
--- revision 4 if the list holds an object entry, else 2
+-- an object entry is among them
 unfoldable pub anyObject : List (List ℕ) → Bool
 anyObject [] = false
 anyObject (e ∷ es) = objectKind (kindOf e) || anyObject es
 
+-- revision 4 if the list holds an object entry, else 2
 abbrev pub revFor : List (List ℕ) → ℕ
 revFor es = cond (anyObject es) 4 2
 

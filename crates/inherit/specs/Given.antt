@@ -18,6 +18,7 @@ pub data Optional : Type 0 where
   absent : Optional
   present : List ℕ → Optional
 
+-- bytes that are a list where one is given
 abbrev pub lent : Bool → List ℕ → Optional
 lent given s = cond given (present s) absent
 

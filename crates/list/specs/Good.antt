@@ -47,6 +47,7 @@ abbrev pub Passes : Family → ℕ → ℕ → List ℕ → Type 0
 Passes f rev zero t = Unit
 Passes f rev (suc n) t = Sound f rev t × Passes f rev n (drop (sizeOf t) t)
 
+-- s begins with a good header
 pub record Header (s : List ℕ) : Type 0 where
   pub long : 8 ≤ length s
   pub rev : revOk (revOf s) ≡ true

@@ -39,7 +39,7 @@ runBy (suc more) t r = onStep (stepOf t) r (λ n. runBy more (drop n t) (carried
 unfoldable pub runOf : List ℕ → List ℕ → Run
 runOf t r = runBy (suc (length t)) t r
 
--- ---- what a script asks: the calls of its whole records, the latest first, before those of qs
+-- ---- what a script asks: the calls of its whole records, the latest first, in front of the calls qs that came earlier
 
 unfoldable pub onCall : Found → List (Call Change) → (ℕ → List (Call Change)) → List (Call Change)
 onCall Cut qs next = qs

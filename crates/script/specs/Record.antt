@@ -55,7 +55,7 @@ parentOf b = cond (eqb b 0xFF) nobody b
 -- 4: object byte, owner and group
 -- 5 undo
 
--- how long a record is; an unknown one is its number alone
+-- how long a record is; undo, and an unknown one, is its number alone
 unfoldable pub sizeOf : List ℕ → ℕ
 sizeOf t =
     cond (eqb (numberOf t) 1) (listEnd (namesEnd 20 t) t)

@@ -65,13 +65,15 @@ onObject r i x rest = need (formed r) 13 x (need (ltb i (objects r)) 9 x rest)
 
 -- ---- the steps
 
--- place for a step in front, the oldest forgotten where there is no more room; and the latest step taken off
+-- place for a step in front, the oldest forgotten where there is no more room
 unfoldable pub shifted : List ℕ → List ℕ
 shifted w = set (putAt (stepsAt (limit w) + 1186) (part (stepsAt (limit w)) ((depth w - 1) * 1186) w) w) 3 (min (depth w) (kept w + 1))
 
+-- a step kept; none is kept where the step limit is 0
 unfoldable pub pushed : List ℕ → List ℕ → List ℕ
 pushed u w = cond (ltb 0 (depth w)) (putAt (stepsAt (limit w)) u (shifted w)) w
 
+-- the latest step taken off
 unfoldable pub popped : List ℕ → List ℕ
 popped w = set (putAt (stepsAt (limit w)) (part (stepsAt (limit w) + 1186) ((depth w - 1) * 1186) w) w) 3 (kept w - 1)
 
@@ -190,7 +192,7 @@ listTo i r out = onObject r i out (copied (told (held (slot i r))) (bytesIf (hel
 unfoldable pub ownTo : ℕ → List ℕ → List ℕ → Outcome
 ownTo i r out = onObject r i out (copied (told (ownList (own i r))) (bytesIf (ownList (own i r))) out)
 
--- own data but for the list: parent, kind, mark, type, owner and group, each with its length in front
+-- own data but for the list: parent, kind, mark, type; owner and group, each of the two with its length in front
 unfoldable pub dataOf : List ℕ → List ℕ
 dataOf b = part 0 19 b ++ ((length (ownerOf b) ∷ ownerOf b) ++ (length (groupOf b) ∷ groupOf b))
 

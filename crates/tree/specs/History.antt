@@ -7,6 +7,7 @@ use mathlib.Core.Bool.{Bool, true, false}
 use mathlib.Core.List.{List, [], _∷_}
 use lib.ListN.{take}
 
+-- go on with what is there
 unfoldable pub bind : {A B : Type 0} → Option A → (A → Option B) → Option B
 bind none f = none
 bind (some a) f = f a
@@ -15,10 +16,12 @@ unfoldable pub isSome : {A : Type 0} → Option A → Bool
 isSome none = false
 isSome (some a) = true
 
+-- what is there, else a
 unfoldable pub orElse : {A : Type 0} → A → Option A → A
 orElse a none = a
 orElse a (some b) = b
 
+-- a change, or an undo
 pub data Call (C : Type 0) : Type 0 where
   edit : C → Call C
   undo : Call C

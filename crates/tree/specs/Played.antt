@@ -8,6 +8,7 @@ use Rattle.tree.specs.Calls.{Outcome, addTo, alterTo, undoTo}
 use Rattle.tree.specs.History.{Call, edit, undo}
 use Rattle.tree.specs.Replay.{Change, add, alter}
 
+-- one call
 unfoldable pub callTo : Call Change → List ℕ → Outcome
 callTo (edit (add new)) r = addTo new r
 callTo (edit (alter i e)) r = alterTo i e r

@@ -1,4 +1,4 @@
--- The tree as changes to own data, with no room and no order of numbers: what History is asked of.
+-- The tree as changes to own data, each list worked out from the root up the parents: what History is asked of; then the tree that a room shows.
 use Prim.Native.Nat.{ℕ, zero, suc, _-_}
 use mathlib.Core.List.{List, [], _∷_, _++_}
 use mathlib.Core.Bool.{Bool, true, false, cond, _&&_}

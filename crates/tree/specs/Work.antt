@@ -53,7 +53,7 @@ taken (Refused k which at) bytes = none
 unfoldable pub computed : List ℕ → Optional → List ℕ → Option Optional
 computed e p b = taken (answerIn e p b 1024) (bytesFor (resultIn e p b))
 
--- the computed list of object i's parent, absent where it has none
+-- the computed list of object i's parent, absent where it has none (FF); in a well-formed room any other parent has a smaller number
 unfoldable pub above : ℕ → List ℕ → Optional
 above i r = cond (ltb (parentOf (own i r)) i) (held (slot (parentOf (own i r)) r)) absent
 
