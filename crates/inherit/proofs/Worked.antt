@@ -111,3 +111,13 @@ wanted k = record { answer = k .answer; out = k .bytes ++ replicate (k .room - l
 pub worked : map computed table ≡ map wanted table
 unfolding table either case computed wanted flatten computeOf needed readable onReading ruleOk withRoom anyObject bytesFor outBy resultOf branch withCreator fromDefault inheritedBit lastStep lastOf resolved entryBytes mapped inPlace fromCreator own fromParent secondPart takesSecond firstPart takesFirst kept pass typeApplies among anyHeritable entriesIf typesOk checkOf finish walkOf onGood headBytes render entriesOf cut headerOk revOk entryOf need tailOk wordAfter headOf flagsOk kindOk objectKind objectOf plainOf identityOf placeholderOf isSid sidLen guidAt sameBytes spell le
 worked = refl
+
+-- each generic bit joins its mapping, and stays; 10000000 adds nothing
+pub masks-worked :
+    (mapped mapping 0x80000000 ≡ 0x80120089)
+    × ((mapped mapping 0x40000000 ≡ 0x40120116)
+    × ((mapped mapping 0x20000000 ≡ 0x201200A0)
+    × ((mapped mapping 0x10000000 ≡ 0x10000000)
+    × (mapped mapping 0xF0000001 ≡ 0xF01201BF))))
+unfolding mapped
+masks-worked = (refl, (refl, (refl, (refl, refl))))

@@ -30,8 +30,8 @@ table =
     ∷ eg (0x02 ∷ 0 ∷ 0x10 ∷ 0 ∷ 0x01 ∷ 0 ∷ 0 ∷ 0 ∷ 0x00 ∷ 0x00 ∷ 0x08 ∷ 0 ∷ 0 ∷ 0 ∷ 0 ∷ 0 ∷ []) 1 (refused 2 0 8)
     ∷ eg (0x02 ∷ 0 ∷ 0x18 ∷ 0 ∷ 0x01 ∷ 0 ∷ 0 ∷ 0 ∷ 0x00 ∷ 0x00 ∷ 0x10 ∷ 0 ∷ 0 ∷ 0 ∷ 0 ∷ 0 ∷ 0x01 ∷ 0x01 ∷ 0 ∷ 0 ∷ 0 ∷ 0 ∷ 0 ∷ 0 ∷ []) 1 (refused 2 0 8)
     ∷ eg (0x02 ∷ 0 ∷ 0x09 ∷ 0 ∷ 0 ∷ 0 ∷ 0 ∷ 0 ∷ 0 ∷ []) 0 (refused 2 0 8)
-    -- 3: type 05 under revision 2
-    ∷ eg (0x02 ∷ 0 ∷ 0x0C ∷ 0 ∷ 0x01 ∷ 0 ∷ 0 ∷ 0 ∷ 0x05 ∷ 0x00 ∷ 0x04 ∷ 0 ∷ []) 1 (refused 3 0 8)
+    -- 3: type 05 under revision 2, though the flags are unknown too
+    ∷ eg (0x02 ∷ 0 ∷ 0x0C ∷ 0 ∷ 0x01 ∷ 0 ∷ 0 ∷ 0 ∷ 0x05 ∷ 0x20 ∷ 0x04 ∷ 0 ∷ []) 1 (refused 3 0 8)
     -- 4: an unknown bit in the object word
     ∷ eg (0x04 ∷ 0 ∷ 0x14 ∷ 0 ∷ 0x01 ∷ 0 ∷ 0 ∷ 0 ∷ 0x05 ∷ 0x00 ∷ 0x0C ∷ 0 ∷ 0 ∷ 0 ∷ 0 ∷ 0 ∷ 0x04 ∷ 0 ∷ 0 ∷ 0 ∷ []) 1 (refused 4 0 8)
     -- 5: n above 15
