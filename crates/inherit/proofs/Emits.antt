@@ -119,7 +119,8 @@ cond-long : (b : Bool) (x y : List ℕ) (n : ℕ) → length x ≤ n → length 
 cond-long true x y n h k = h
 cond-long false x y n h k = k
 
-pub in-place-le : (k : ℕ) (sid owner group : List ℕ) → length owner ≤ 68 → length group ≤ 68 → length sid ≤ 68 → length (inPlace k sid owner group) ≤ 68
+pub in-place-le : (k : ℕ) (sid owner group : List ℕ) → length owner ≤ 68 → length group ≤ 68 → length sid ≤ 68
+    → length (inPlace k sid owner group) ≤ 68
 unfolding inPlace
 in-place-le k sid owner group o g s = cond-long (eqb k 1) owner _ 68 o (cond-long (eqb k 2) group sid 68 g s)
 

@@ -1,5 +1,5 @@
 -- The answer by cases: no list, no room, or a list on the front of the buffer.
-use mathlib.Core.Path.{_≡_, sym, ap, _∙_}
+use mathlib.Core.Path.{_≡_, sym, ap, subst, _∙_}
 use mathlib.Core.Bool.{Bool, true, false, cond}
 use mathlib.Core.List.{List, [], _∷_, _++_, flatten}
 use Prim.Native.Nat.{ℕ, _+_, _*_, _≤_, _<_}
@@ -93,3 +93,12 @@ module _ (g : Given) (q : Plan) (n : Parts) (p c d : List ℕ) where
           let e = le-leb (sizeFor (gathered g n p c d)) (length out) k in
           let f = le-leb (sizeFor (gathered g n p c d)) 65532 m in
           record { answer = rw (h, e, f); bytes = rw (h, e, f) o }
+
+      -- the same, of the measure that the code has
+      pub fill-measured : (m : Measure) → m ≡ measureOf (gathered g n p c d) → 8 + m .bytes ≤ length out → 8 + m .bytes ≤ 65532 → (out′ : List ℕ)
+          → out′ ≡ front (render (revFor (gathered g n p c d)) (gathered g n p c d)) out
+          → Filled g q n p c d out (Present (8 + m .bytes) (m .count) (q .control)) out′
+      fill-measured m e k j out′ o =
+          let b = ap (λ (z : Measure). z .bytes) e in
+          subst (λ (z : Measure). Filled g q n p c d out (Present (8 + z .bytes) (z .count) (q .control)) out′) (sym e)
+          (fill-done (omega arith) (omega arith) out′ o)

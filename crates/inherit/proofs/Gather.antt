@@ -45,13 +45,15 @@ onward-length at w x h =
     ∙ omega (arith, length-take-le at x (omega arith), length-front w (drop at x) (omega (arith, length-drop at x)), length-drop at x)
 
 -- one more writer behind what stands on the front
-onward-front : (p w d x : List ℕ) (at : ℕ) → x ≡ front p d → length p ≡ at → length p + length w ≤ length d → onward at w x ≡ front (p ++ w) d
+onward-front : (p w d x : List ℕ) (at : ℕ) → x ≡ front p d → length p ≡ at → length p + length w ≤ length d
+    → onward at w x ≡ front (p ++ w) d
 onward-front p w d x at e n h = ap (onward at w) e ∙ front-then p w d at n h
 
 -- four writers, each behind the ones before it
 module _ (A B C D d x₁ x₂ x₃ x₄ : List ℕ) (a b c : ℕ) (room : length A + length B + length C + length D ≤ length d)
     (ea : a ≡ 0 + length A) (eb : b ≡ a + length B) (ec : c ≡ b + length C) where
-  pub four-front : x₁ ≡ onward 0 A d → x₂ ≡ onward a B x₁ → x₃ ≡ onward b C x₂ → x₄ ≡ onward c D x₃ → x₄ ≡ front (((A ++ B) ++ C) ++ D) d
+  pub four-front : x₁ ≡ onward 0 A d → x₂ ≡ onward a B x₁ → x₃ ≡ onward b C x₂ → x₄ ≡ onward c D x₃
+      → x₄ ≡ front (((A ++ B) ++ C) ++ D) d
   four-front e₁ e₂ e₃ e₄ =
       let l = length-append A B in
       let m = length-append (A ++ B) C in

@@ -57,7 +57,9 @@ module _ (g : Given) (p : Pass) (rev : ℕ) (s : List ℕ) (n : ℕ) where
   measuring-none r = record { most = omega arith; rest = r; sum = measures (zero-add _) (zero-add _) refl; bytes = omega arith; count = omega arith }
 
   both-assoc : (a b c : Measure) → both (both a b) c ≡ both a (both b c)
-  both-assoc a b c = measures (add-assoc (a .bytes) (b .bytes) (c .bytes)) (add-assoc (a .count) (b .count) (c .count)) (or-assoc (a .object) (b .object) (c .object))
+  both-assoc a b c =
+      measures (add-assoc (a .bytes) (b .bytes) (c .bytes)) (add-assoc (a .count) (b .count) (c .count))
+      (or-assoc (a .object) (b .object) (c .object))
 
   module _ (total : Measure) (at left : ℕ) (m : Measuring total at left) (h : 0 < left) (small : sizeOf (drop at s) ≤ 65535)
       (lo : length (g .owner) ≤ 68) (lg : length (g .group) ≤ 68) where
@@ -78,6 +80,11 @@ module _ (g : Given) (p : Pass) (rev : ℕ) (s : List ℕ) (n : ℕ) where
           bytes = omega (arith, few, m .bytes, i);
           count = omega (arith, emit-few g p (drop at s), m .count, i);
         }
+
+    -- the same, of what the code measured in the turn
+    pub measuring-turn : (total′ gives : Measure) (size : ℕ) → total′ ≡ both total gives → gives ≡ measureOf (emitOf g p (drop at s))
+        → size ≡ sizeOf (drop at s) → Measuring total′ (at + size) (left - 1)
+    measuring-turn total′ gives size et eg es = rw (et, eg, es) measuring-more
 
   pub measured-all : (total : Measure) (at left : ℕ) → Measuring total at left → left ≤ 0 → total ≡ measureOf (emitted g p n s)
   unfolding flatten anyObject
@@ -103,15 +110,21 @@ module _ (g : Given) (p : Pass) (rev : ℕ) (s : List ℕ) (n : ℕ) where
     long = stands-length out out₀ to (w .stands) to-fits
 
     module _ (h : 0 < left) where
-      all : take to out ++ (flatten (emitOf g p (drop at s)) ++ flatten (emitAll g p (cut (left - 1) (drop (at + sizeOf (drop at s)) s)))) ≡ flatten (emitted g p n s)
+      all : take to out ++ (flatten (emitOf g p (drop at s)) ++ flatten (emitAll g p (cut (left - 1) (drop (at + sizeOf (drop at s)) s))))
+          ≡ flatten (emitted g p n s)
       all =
-          ap (λ (x : List ℕ). take to out ++ x) (sym (flatten-append (emitOf g p (drop at s)) _) ∙ ap flatten (sym (turned at left h (w .rest)))) ∙ w .sofar
+          ap (λ (x : List ℕ). take to out ++ x)
+          (sym (flatten-append (emitOf g p (drop at s)) _) ∙ ap flatten (sym (turned at left h (w .rest))))
+          ∙ w .sofar
 
       pub one-fits : to + length (flatten (emitOf g p (drop at s))) ≤ length out₀
       one-fits =
-          omega (arith, w .stands .long, ap length all, length-append (take to out) (flatten (emitOf g p (drop at s)) ++ flatten (emitAll g p (cut (left - 1) (drop (at + sizeOf (drop at s)) s)))), length-append (flatten (emitOf g p (drop at s))) (flatten (emitAll g p (cut (left - 1) (drop (at + sizeOf (drop at s)) s)))))
+          let one = flatten (emitOf g p (drop at s)) in
+          let later = flatten (emitAll g p (cut (left - 1) (drop (at + sizeOf (drop at s)) s))) in
+          omega (arith, w .stands .long, ap length all, length-append (take to out) (one ++ later), length-append one later)
 
-      pub writing-more : (ys : List ℕ) (k : ℕ) → ys ≡ front (flatten (emitOf g p (drop at s))) (take (length out - to) (drop to out)) → k ≡ length (flatten (emitOf g p (drop at s)))
+      pub writing-more : (ys : List ℕ) (k : ℕ) → ys ≡ front (flatten (emitOf g p (drop at s))) (take (length out - to) (drop to out))
+          → k ≡ length (flatten (emitOf g p (drop at s)))
           → Writing out₀ (take to out ++ (ys ++ drop (length out - to) (drop to out))) (to + k) (at + sizeOf (drop at s)) (left - 1)
       writing-more ys k ey ek =
           let b = w .most in
@@ -126,6 +139,12 @@ module _ (g : Given) (p : Pass) (rev : ℕ) (s : List ℕ) (n : ℕ) where
                 ∙ append-assoc (take to out) (flatten (emitOf g p (drop at s))) _
                 ∙ all;
           }
+
+      -- the same, of the size that the code found in the turn
+      pub writing-turn : (ys : List ℕ) (k size : ℕ) → ys ≡ front (flatten (emitOf g p (drop at s))) (take (length out - to) (drop to out))
+          → k ≡ length (flatten (emitOf g p (drop at s))) → size ≡ sizeOf (drop at s)
+          → Writing out₀ (take to out ++ (ys ++ drop (length out - to) (drop to out))) (to + k) (at + size) (left - 1)
+      writing-turn ys k size ey ek es = rw es (writing-more ys k ey ek)
 
     pub written-all : left ≤ 0 → (to ≡ length (flatten (emitted g p n s))) × (out ≡ front (flatten (emitted g p n s)) out₀)
     unfolding flatten

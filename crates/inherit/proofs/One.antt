@@ -61,7 +61,9 @@ module _ (rev : ℕ) (t : List ℕ) (s : Sound access rev t) (e : Entry) (q : e 
       writes-one =
           ap flatten one
           ∙ append-nil _
-          ∙ ap (λ (x : Entry). entryBytes (x .kind) (flagsBy p (x .flags)) (mapped (g .mapping) (x .mask)) (middleOf t) (putIn t (g .owner) (g .group)) (tailOf t)) (sym q)
+          ∙ ap
+          (λ (x : Entry). entryBytes (x .kind) (flagsBy p (x .flags)) (mapped (g .mapping) (x .mask)) (middleOf t) (putIn t (g .owner) (g .group)) (tailOf t))
+          (sym q)
 
       pub length-one : length (flatten (emitOf g p t)) ≡ e .sid + length (putIn t (g .owner) (g .group)) + (e .size - (e .sid + e .«sid_len»))
       unfolding flatten
@@ -76,7 +78,8 @@ module _ (rev : ℕ) (t : List ℕ) (s : Sound access rev t) (e : Entry) (q : e 
       object-one =
           ap anyObject one
           ∙ or-false _
-          ∙ ap objectKind (kind-entry (kindOf t) (flagsBy p (flagsOf t)) (mapped (g .mapping) (maskOf t)) (middleOf t) (putIn t (g .owner) (g .group)) (tailOf t))
+          ∙ ap objectKind
+          (kind-entry (kindOf t) (flagsBy p (flagsOf t)) (mapped (g .mapping) (maskOf t)) (middleOf t) (putIn t (g .owner) (g .group)) (tailOf t))
           ∙ ap (λ (x : Entry). objectKind (x .kind)) (sym q)
 
       pub gives-one : measureOf (emitOf g p t)

@@ -50,7 +50,8 @@ module _ (g : Given) (o : Bool) (P : List ℕ → Type 0) where
   unfolding lastStep pass emitOf emitAll
   part-kept p k [] a = refl
   part-kept p k (e ∷ es) a =
-      last-kept g o (takesBy g p e) (set e 1 (flagsBy p (flagsOf e))) (pass (takesBy g p) (flagsBy p) es) (emitAll g p es) (k e (a .0)) (part-kept p k es (a .1))
+      last-kept g o (takesBy g p e) (set e 1 (flagsBy p (flagsOf e))) (pass (takesBy g p) (flagsBy p) es) (emitAll g p es)
+      (k e (a .0)) (part-kept p k es (a .1))
 
   part-dropped : (takes : List ℕ → Bool) (flags : ℕ → ℕ) → ((e : List ℕ) → P e → passesFilter o (set e 1 (flags (flagsOf e))) ≡ false)
       → (es : List (List ℕ)) → Every P es → lastStep g o (pass takes flags es) ≡ []
@@ -152,12 +153,14 @@ module _ (s : Settings) (g : Given) (ps cs ds : List (List ℕ)) (kp : Every Kno
   part-is o false = refl
 
   dropping-is : (t : Bool)
-      → some (lastStep g true (fromCreator access g cs ++ cond t (fromParent access g ps) [])) (cond t (inheritedBit access) 0) ≡ byPlan g ps cs ds (merging false t)
+      → some (lastStep g true (fromCreator access g cs ++ cond t (fromParent access g ps) [])) (cond t (inheritedBit access) 0)
+      ≡ byPlan g ps cs ds (merging false t)
   unfolding planned resultBy emitAll
   dropping-is t = rw (last-append, creator-none g cs kc, part-is true t)
 
   keeping-is : (t : Bool)
-      → some (lastStep g false (own cs ++ cond t (fromParent access g ps) [])) (cond t (inheritedBit access) 0) ≡ byPlan g ps cs ds (merging true t)
+      → some (lastStep g false (own cs ++ cond t (fromParent access g ps) [])) (cond t (inheritedBit access) 0)
+      ≡ byPlan g ps cs ds (merging true t)
   unfolding planned resultBy emitAll
   keeping-is t = rw (last-append, own-is g cs kc, part-is false t)
 

@@ -33,7 +33,8 @@ in-place-one : (k : ℕ) (sid owner group : List ℕ) → OneSid sid → OneSid 
 unfolding inPlace
 in-place-one k sid owner group s o g = cond-one (eqb k 1) owner _ o (cond-one (eqb k 2) group sid g s)
 
-pub in-place-ordinary : (s owner group : List ℕ) → placeholderOf owner ≡ 0 → placeholderOf group ≡ 0 → placeholderOf (inPlace (placeholderOf s) s owner group) ≡ 0
+pub in-place-ordinary : (s owner group : List ℕ) → placeholderOf owner ≡ 0 → placeholderOf group ≡ 0
+    → placeholderOf (inPlace (placeholderOf s) s owner group) ≡ 0
 unfolding inPlace
 in-place-ordinary s owner group o g = by (eqb (placeholderOf s) 1) (eqb (placeholderOf s) 2) refl refl
   where

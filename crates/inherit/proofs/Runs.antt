@@ -79,7 +79,10 @@ module _ (rule : ℕ) (s : Settings) (mapping : Mapping) (p c d : Source) (P C D
       ≡ gathered g (partsOf q p c d) P C D
   unfolding planned
   gathers g q =
-      rw (fp .entries, fc .entries, fd .entries, cond-cut (q .own) (c .count) (drop 8 C), cond-cut (q .parent) (p .count) (drop 8 P), cond-cut (q .default) (d .count) (drop 8 D))
+      let eo = cond-cut (q .own) (c .count) (drop 8 C) in
+      let ep = cond-cut (q .parent) (p .count) (drop 8 P) in
+      let ed = cond-cut (q .default) (d .count) (drop 8 D) in
+      rw (fp .entries, fc .entries, fd .entries, eo, ep, ed)
 
   pub run-is : (h : Bool) → h ≡ anyHeritable (cut (p .count) (drop 8 P)) → (q : Plan) → q ≡ planOf rule s h
       → resultBy q (gathered (givenFor rule s mapping types owner group) (partsOf q p c d) P C D) ≡ resultFor rule s mapping P C D types owner group
@@ -94,6 +97,7 @@ module _ (rule : ℕ) (s : Settings) (mapping : Mapping) (p c d : Source) (P C D
 -- the code's terms are what the definitions are given
 pub given-is : (rule : ℕ) (s : Settings) (mapping : Mapping) (types : List ℕ) (four : List (List ℕ)) (owner group o r : List ℕ)
     → four ≡ fourOf types → o ≡ owner → r ≡ group
-    → givenBy (record { rule = rule; container = s .container; mapping = mapping; count = length types / 16 }) four o r ≡ givenFor rule s mapping types owner group
+    → givenBy (record { rule = rule; container = s .container; mapping = mapping; count = length types / 16 }) four o r
+    ≡ givenFor rule s mapping types owner group
 unfolding typesOf
 given-is rule s mapping types four owner group o r ef eo er = rw (ef, eo, er)

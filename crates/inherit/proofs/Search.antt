@@ -50,5 +50,10 @@ module _ (rev : ℕ) (s : List ℕ) (n : ℕ) where
             ∙ m .sofar;
       }
 
+  -- the same, of what the code found in the turn
+  pub searching-turn : (found : Bool) (at left : ℕ) → Searching found at left → 0 < left → (found′ flag : Bool) (size : ℕ)
+      → found′ ≡ (found || flag) → flag ≡ heritable (drop at s) → size ≡ sizeOf (drop at s) → Searching found′ (at + size) (left - 1)
+  searching-turn found at left m h found′ flag size ef eh es = rw (ef, eh, es) (searching-more found at left m h)
+
   pub searched-all : (found : Bool) (at left : ℕ) → Searching found at left → left ≤ 0 → found ≡ anyHeritable (cut n (drop 8 s))
   searched-all found at left m h = sym (or-false found) ∙ ap (λ (b : Bool). found || b) (sym (any-none left (drop at s) h)) ∙ m .sofar

@@ -52,7 +52,8 @@ clash : {o : Computed} {l n k j w at : ℕ} → o ≡ Present l n k → Refused 
 clash p q = let z : _≡_ {A = ℕ} 0 1 = cc in omega arith
 
 -- a list was computed only where every test was passed
-pub passed : (s : Settings) (g : Given) (types : List ℕ) (p c d : Optional) (room l n k : ℕ) → computeOf s g types p c d room ≡ Present l n k → Passed s g types p c d
+pub passed : (s : Settings) (g : Given) (types : List ℕ) (p c d : Optional) (room l n k : ℕ) → computeOf s g types p c d room ≡ Present l n k
+    → Passed s g types p c d
 passed s g types p c d room l n k h =
     let r : ruleOk (g .rule) ≡ true = true-or _ (λ x. clash h (bad-rule s g types p c d room x)) in
     let hp : sourceOf p .number ≡ 0 = eq-or _ _ (λ x. clash h (bad-parent s g types p c d room r x)) in
@@ -77,7 +78,15 @@ told-fits : (b : Bool) (room : ℕ) (es : List (List ℕ)) (k l n j : ℕ) → f
     → cond b (Present (sizeFor es) (length es) k) (Refused 8 0 0) ≡ Present l n j → Told room (some es k) l n
 told-fits true room es k l n j e h =
     let f = both-true (leb (sizeFor es) room) (leb (sizeFor es) 65532) e in
-    record { entries = es; control = k; is = refl; size = cc; count = cc; fitting = leb-true (sizeFor es) room (f .0); most = leb-true (sizeFor es) 65532 (f .1) }
+    record {
+      entries = es;
+      control = k;
+      is = refl;
+      size = cc;
+      count = cc;
+      fitting = leb-true (sizeFor es) room (f .0);
+      most = leb-true (sizeFor es) 65532 (f .1);
+    }
 told-fits false room es k l n j e h = let z : _≡_ {A = ℕ} 0 1 = cc in absurd (omega arith)
 
 told-room : (room : ℕ) (r : Result) (l n j : ℕ) → withRoom room r ≡ Present l n j → Told room r l n
@@ -127,9 +136,11 @@ module _ (rule : ℕ) (s : Settings) (mapping : Mapping) (P C D types owner grou
       let o = one-sid-of owner (v .owner) in
       let r = one-sid-of group (v .group) in
       let ws : Every (Whole access (revFor es)) es =
-      subst (λ (x : List (List ℕ)). Every (Whole access (revFor x)) x) (sym e) (planned-whole g (o .0) (r .0) q (entriesIf p) (entriesIf c) (entriesIf d) _ _ _ (fp .wholes) (fc .wholes) (fd .wholes)) in
+      subst (λ (x : List (List ℕ)). Every (Whole access (revFor x)) x) (sym e)
+      (planned-whole g (o .0) (r .0) q (entriesIf p) (entriesIf c) (entriesIf d) _ _ _ (fp .wholes) (fc .wholes) (fd .wholes)) in
       let ps : Every (λ x. placeholderOf (sidOf x) ≡ 0) es =
-      subst (Every (λ x. placeholderOf (sidOf x) ≡ 0)) (sym e) (planned-ordinary g (o .0) (r .0) (o .1) (r .1) q (entriesIf p) (entriesIf c) (entriesIf d) _ _ _ (fp .wholes) (fc .wholes) (fd .wholes)) in
+      subst (Every (λ x. placeholderOf (sidOf x) ≡ 0)) (sym e)
+      (planned-ordinary g (o .0) (r .0) (o .1) (r .1) q (entriesIf p) (entriesIf c) (entriesIf d) _ _ _ (fp .wholes) (fc .wholes) (fd .wholes)) in
       let m = rendered access (revFor es) es (rev-known (anyObject es)) ws (omega (arith, t .most)) in
       subst (λ (x : Result). Computes (bytesFor x) l n) (sym (t .is))
       (record {
@@ -146,7 +157,8 @@ module _ (rule : ℕ) (s : Settings) (mapping : Mapping) (P C D types owner grou
       by (resultFor rule s mapping P C D types owner group)
       (sym (passed-room s (givenFor rule s mapping types owner group) types (lent (s .parent) P) (lent (s .creator) C) (lent (s .default) D) room v) ∙ h)
     where
-      fitted : (b : Bool) (es : List (List ℕ)) (j : ℕ) → cond b (Present (sizeFor es) (length es) j) (Refused 8 0 0) ≡ Refused k w at → (k ≡ 8) × (w ≡ 0) × (at ≡ 0)
+      fitted : (b : Bool) (es : List (List ℕ)) (j : ℕ) → cond b (Present (sizeFor es) (length es) j) (Refused 8 0 0) ≡ Refused k w at
+          → (k ≡ 8) × (w ≡ 0) × (at ≡ 0)
       fitted true es j q = let z : _≡_ {A = ℕ} 0 1 = cc in absurd (omega arith)
       fitted false es j q = (cc, cc, cc)
 
@@ -164,7 +176,8 @@ unfolding sourceOf
 absent-source = refl
 
 -- a parent without inheritable entries, an empty one among them, gives what an absent one gives
-pub not-heritable : (s : Settings) (g : Given) (p c d : Optional) → anyHeritable (entriesIf p) ≡ false → resultOf access s g p c d ≡ resultOf access s g absent c d
+pub not-heritable : (s : Settings) (g : Given) (p c d : Optional) → anyHeritable (entriesIf p) ≡ false
+    → resultOf access s g p c d ≡ resultOf access s g absent c d
 unfolding resultOf branch entriesIf anyHeritable
 not-heritable s g p absent d h = rw h
 not-heritable s g p (present c) d h = rw h

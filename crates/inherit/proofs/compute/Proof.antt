@@ -7,12 +7,14 @@ use Prim.Native.Nat.{ℕ}
 use borrow.Author.Tests.{not-true, not-false}
 use denote.Ref.{now}
 use lib.ListN.{length}
+use Rattle.list.specs.Entry.{access}
 use Rattle.inherit.specs.declared.tests.Source.{Source}
 use Rattle.inherit.specs.declared.Computed.{Computed}
 use Rattle.inherit.specs.declared.Computed.the-variants.{Refused}
-use Rattle.inherit.specs.Given.{lent, typesOk}
-use Rattle.inherit.specs.Compute.{ordinary, ruleOk, bytesFor, outBy, givenFor, resultFor}
-use Rattle.inherit.specs.Source.{sourceOf}
+use Rattle.inherit.specs.Given.{Given, Optional, lent, typesOk}
+use Rattle.inherit.specs.Branch.{Result, resultOf}
+use Rattle.inherit.specs.Compute.{ordinary, ruleOk, bytesFor, outBy, givenFor}
+use Rattle.inherit.specs.Source.{sourceOf, Found}
 use Rattle.inherit.proofs.Refusals.{bad-rule, bad-parent, bad-creator, bad-default, bad-owner, bad-group, bad-types, all-good}
 use Rattle.inherit.proofs.compute.Statement.{statement}
 use Rattle.inherit.proofs.compute.Tie as tie
@@ -22,100 +24,206 @@ settle : (x : Computed) (bytes out : List ℕ) (k w at : ℕ) → Refused k w at
 unfolding outBy
 settle x bytes out k w at e = (e, subst (λ (y : Computed). out ≡ outBy y bytes out) e refl)
 
+-- what the code found of a list refuses as the definition does, and passes as it does
+refuses : {x y : Source} (w : ℕ) → x ≡ y → _≡_ {A = Computed} (Refused (x .number) w (x .offset)) (Refused (y .number) w (y .offset))
+refuses w e = ap {B = Computed} (λ (z : Source). Refused (z .number) w (z .offset)) e
+
+still-bad : {x y : Source} → x ≡ y → (x .number ≡ 0 → ⊥) → y .number ≡ 0 → ⊥
+still-bad e h n = h (ap (λ (z : Source). z .number) e ∙ n)
+
+still-good : {o : Optional} {x : Source} → Found o x → sourceOf o .number ≡ 0
+still-good f = sym (ap (λ (z : Source). z .number) (f .is)) ∙ f .good
+
+-- where the call begins, from behind each test that was passed
+abbrev start1 : tie.Else1 → tie.Start
+start1 c = c .before .before .before .before .before .before .before .before .before
+
+abbrev start2 : tie.Else2 → tie.Start
+start2 c = start1 (c .before .before .before)
+
+abbrev start3 : tie.Else3 → tie.Start
+start3 c = start2 (c .before .before .before)
+
+abbrev start4 : tie.Else4 → tie.Start
+start4 c = start3 (c .before .before .before)
+
+abbrev start5 : tie.Else5 → tie.Start
+start5 c = start4 (c .before .before)
+
+abbrev start6 : tie.Else6 → tie.Start
+start6 c = start5 (c .before .before)
+
+abbrev start7 : tie.Else7 → tie.Start
+start7 c = start6 (c .before .before)
+
+-- the arguments there, as the definitions have them
+abbrev given : tie.Start → Given
+given s =
+    givenFor (s .args .rule) (s .args .settings) (s .args .mapping) (now (s .args .types)) (now (s .args .owner)) (now (s .args .group))
+
+abbrev parent : tie.Start → Optional
+parent s = lent (s .args .settings .parent) (now (s .args .parent))
+
+abbrev creator : tie.Start → Optional
+creator s = lent (s .args .settings .creator) (now (s .args .creator))
+
+abbrev default : tie.Start → Optional
+default s = lent (s .args .settings .default) (now (s .args .default))
+
+abbrev types : tie.Start → List ℕ
+types s = now (s .args .types)
+
+abbrev room : tie.Start → ℕ
+room s = length (now (s .args .out))
+
+abbrev result : tie.Start → Result
+result s = resultOf access (s .args .settings) (given s) (parent s) (creator s) (default s)
+
 -- what each test that was passed says
-rule-yes : (c : tie.Else1) → ruleOk (c .before .before .before .before .before .before .before .before .before .args .rule) ≡ true
-rule-yes c = sym (c .before .rule-ok .ensures) ∙ not-false _ (c .if1 .left)
+rule-good : (c : tie.Else1) → ruleOk (start1 c .args .rule) ≡ true
+rule-good c = sym (c .before .rule-ok .ensures) ∙ not-false _ (c .if1 .left)
 
-parent-yes : (c : tie.Else2) → sourceOf (lent (c .before .before .before .before .before .before .before .before .before .before .before .before .args .settings .parent) (now (c .before .before .before .before .before .before .before .before .before .before .before .before .args .parent))) .number ≡ 0
-parent-yes c = sym (ap (λ (x : Source). x .number) (c .before .before .source-of .ensures .0)) ∙ c .if2 .left
+parent-found : (c : tie.Else2) → Found (parent (start2 c)) (c .before .before .source-of .result)
+parent-found c =
+    let r = c .before .before .source-of .ensures in
+    record { is = r .0; good = c .if2 .left; few = r .1 }
 
-creator-yes : (c : tie.Else3) → sourceOf (lent (c .before .before .before .before .before .before .before .before .before .before .before .before .before .before .before .args .settings .creator) (now (c .before .before .before .before .before .before .before .before .before .before .before .before .before .before .before .args .creator))) .number ≡ 0
-creator-yes c = sym (ap (λ (x : Source). x .number) (c .before .before .source-of2 .ensures .0)) ∙ c .if3 .left
+creator-found : (c : tie.Else3) → Found (creator (start3 c)) (c .before .before .source-of2 .result)
+creator-found c =
+    let r = c .before .before .source-of2 .ensures in
+    record { is = r .0; good = c .if3 .left; few = r .1 }
 
-default-yes : (c : tie.Else4) → sourceOf (lent (c .before .before .before .before .before .before .before .before .before .before .before .before .before .before .before .before .before .before .args .settings .default) (now (c .before .before .before .before .before .before .before .before .before .before .before .before .before .before .before .before .before .before .args .default))) .number ≡ 0
-default-yes c = sym (ap (λ (x : Source). x .number) (c .before .before .source-of3 .ensures .0)) ∙ c .if4 .left
+default-found : (c : tie.Else4) → Found (default (start4 c)) (c .before .before .source-of3 .result)
+default-found c =
+    let r = c .before .before .source-of3 .ensures in
+    record { is = r .0; good = c .if4 .left; few = r .1 }
 
-owner-yes : (c : tie.Else5) → ordinary (now (c .before .before .before .before .before .before .before .before .before .before .before .before .before .before .before .before .before .before .before .before .args .owner)) ≡ true
-owner-yes c = sym (c .before .ordinary .ensures) ∙ not-false _ (c .if5 .left)
+owner-good : (c : tie.Else5) → ordinary (now (start5 c .args .owner)) ≡ true
+owner-good c = sym (c .before .ordinary .ensures) ∙ not-false _ (c .if5 .left)
 
-group-yes : (c : tie.Else6) → ordinary (now (c .before .before .before .before .before .before .before .before .before .before .before .before .before .before .before .before .before .before .before .before .before .before .args .group)) ≡ true
-group-yes c = sym (c .before .ordinary2 .ensures) ∙ not-false _ (c .if6 .left)
+group-good : (c : tie.Else6) → ordinary (now (start6 c .args .group)) ≡ true
+group-good c = sym (c .before .ordinary2 .ensures) ∙ not-false _ (c .if6 .left)
 
-types-yes : (c : tie.Else7) → typesOk (now (c .before .before .before .before .before .before .before .before .before .before .before .before .before .before .before .before .before .before .before .before .before .before .before .before .args .types)) ≡ true
-types-yes c = sym (c .before .types-ok .ensures) ∙ not-false _ (c .if7 .left)
+types-good : (c : tie.Else7) → typesOk (types (start7 c)) ≡ true
+types-good c = sym (c .before .types-ok .ensures) ∙ not-false _ (c .if7 .left)
+
+-- the rule and the three lists were found good
+record Readable (s : tie.Start) : Type 0 where
+  hr : ruleOk (s .args .rule) ≡ true
+  hp : sourceOf (parent s) .number ≡ 0
+  hc : sourceOf (creator s) .number ≡ 0
+  hd : sourceOf (default s) .number ≡ 0
+
+lists-good : (c : tie.Else4) → Readable (start4 c)
+lists-good c =
+    let k3 = c .before .before .before in
+    let k2 = k3 .before .before .before in
+    let k1 = k2 .before .before .before in
+    record { hr = rule-good k1; hp = still-good (parent-found k2); hc = still-good (creator-found k3); hd = still-good (default-found c) }
 
 rule-ok-requires : tie.Need-rule-ok-requires
 rule-ok-requires c κs = search needs
 
 returns : tie.Need-returns
 returns c =
-    let a = c .before .before .before .before .before .before .before .before .before .args in
-    let g = givenFor (a .rule) (a .settings) (a .mapping) (now (a .types)) (now (a .owner)) (now (a .group)) in
-    settle _ _ _ 12 0 0 (bad-rule (a .settings) g (now (a .types)) (lent (a .settings .parent) (now (a .parent))) (lent (a .settings .creator) (now (a .creator))) (lent (a .settings .default) (now (a .default))) (length (now (a .out))) (sym (c .before .rule-ok .ensures) ∙ not-true _ (c .if1 .taken)))
+    let s = c .before .before .before .before .before .before .before .before .before in
+    let bad = sym (c .before .rule-ok .ensures) ∙ not-true _ (c .if1 .taken) in
+    settle _ _ _ 12 0 0 (bad-rule (s .args .settings) (given s) (types s) (parent s) (creator s) (default s) (room s) bad)
 
 source-of-requires : tie.Need-source-of-requires
 source-of-requires c κs = search needs
 
 returns-2 : tie.Need-returns-2
 returns-2 c =
-    let a = c .before .before .before .before .before .before .before .before .before .before .before .before .args in
-    let g = givenFor (a .rule) (a .settings) (a .mapping) (now (a .types)) (now (a .owner)) (now (a .group)) in
-    settle _ _ _ _ 1 _ (ap {B = Computed} (λ (x : Source). Refused (x .number) 1 (x .offset)) (c .before .before .source-of .ensures .0) ∙ bad-parent (a .settings) g (now (a .types)) (lent (a .settings .parent) (now (a .parent))) (lent (a .settings .creator) (now (a .creator))) (lent (a .settings .default) (now (a .default))) (length (now (a .out))) (rule-yes (c .before .before .before)) (λ e. c .if2 .taken (ap (λ (x : Source). x .number) (c .before .before .source-of .ensures .0) ∙ e)))
+    let k1 = c .before .before .before in
+    let s = start1 k1 in
+    let e = c .before .before .source-of .ensures .0 in
+    settle _ _ _ _ 1 _
+    (refuses 1 e
+    ∙ bad-parent (s .args .settings) (given s) (types s) (parent s) (creator s) (default s) (room s) (rule-good k1) (still-bad e (c .if2 .taken)))
 
 source-of-requires-2 : tie.Need-source-of-requires-2
 source-of-requires-2 c κs = search needs
 
 returns-3 : tie.Need-returns-3
 returns-3 c =
-    let a = c .before .before .before .before .before .before .before .before .before .before .before .before .before .before .before .args in
-    let g = givenFor (a .rule) (a .settings) (a .mapping) (now (a .types)) (now (a .owner)) (now (a .group)) in
-    settle _ _ _ _ 2 _ (ap {B = Computed} (λ (x : Source). Refused (x .number) 2 (x .offset)) (c .before .before .source-of2 .ensures .0) ∙ bad-creator (a .settings) g (now (a .types)) (lent (a .settings .parent) (now (a .parent))) (lent (a .settings .creator) (now (a .creator))) (lent (a .settings .default) (now (a .default))) (length (now (a .out))) (rule-yes (c .before .before .before .before .before .before)) (parent-yes (c .before .before .before)) (λ e. c .if3 .taken (ap (λ (x : Source). x .number) (c .before .before .source-of2 .ensures .0) ∙ e)))
+    let k2 = c .before .before .before in
+    let s = start2 k2 in
+    let e = c .before .before .source-of2 .ensures .0 in
+    settle _ _ _ _ 2 _
+    (refuses 2 e
+    ∙ bad-creator (s .args .settings) (given s) (types s) (parent s) (creator s) (default s) (room s)
+    (rule-good (k2 .before .before .before)) (still-good (parent-found k2)) (still-bad e (c .if3 .taken)))
 
 source-of-requires-3 : tie.Need-source-of-requires-3
 source-of-requires-3 c κs = search needs
 
 returns-4 : tie.Need-returns-4
 returns-4 c =
-    let a = c .before .before .before .before .before .before .before .before .before .before .before .before .before .before .before .before .before .before .args in
-    let g = givenFor (a .rule) (a .settings) (a .mapping) (now (a .types)) (now (a .owner)) (now (a .group)) in
-    settle _ _ _ _ 3 _ (ap {B = Computed} (λ (x : Source). Refused (x .number) 3 (x .offset)) (c .before .before .source-of3 .ensures .0) ∙ bad-default (a .settings) g (now (a .types)) (lent (a .settings .parent) (now (a .parent))) (lent (a .settings .creator) (now (a .creator))) (lent (a .settings .default) (now (a .default))) (length (now (a .out))) (rule-yes (c .before .before .before .before .before .before .before .before .before)) (parent-yes (c .before .before .before .before .before .before)) (creator-yes (c .before .before .before)) (λ e. c .if4 .taken (ap (λ (x : Source). x .number) (c .before .before .source-of3 .ensures .0) ∙ e)))
+    let k3 = c .before .before .before in
+    let k2 = k3 .before .before .before in
+    let s = start3 k3 in
+    let e = c .before .before .source-of3 .ensures .0 in
+    settle _ _ _ _ 3 _
+    (refuses 3 e
+    ∙ bad-default (s .args .settings) (given s) (types s) (parent s) (creator s) (default s) (room s)
+    (rule-good (k2 .before .before .before)) (still-good (parent-found k2)) (still-good (creator-found k3)) (still-bad e (c .if4 .taken)))
 
 ordinary-requires : tie.Need-ordinary-requires
 ordinary-requires c κs = search needs
 
 returns-5 : tie.Need-returns-5
 returns-5 c =
-    let a = c .before .before .before .before .before .before .before .before .before .before .before .before .before .before .before .before .before .before .before .before .args in
-    let g = givenFor (a .rule) (a .settings) (a .mapping) (now (a .types)) (now (a .owner)) (now (a .group)) in
-    settle _ _ _ 6 0 0 (bad-owner (a .settings) g (now (a .types)) (lent (a .settings .parent) (now (a .parent))) (lent (a .settings .creator) (now (a .creator))) (lent (a .settings .default) (now (a .default))) (length (now (a .out))) (rule-yes (c .before .before .before .before .before .before .before .before .before .before .before)) (parent-yes (c .before .before .before .before .before .before .before .before)) (creator-yes (c .before .before .before .before .before)) (default-yes (c .before .before)) (sym (c .before .ordinary .ensures) ∙ not-true _ (c .if5 .taken)))
+    let k4 = c .before .before in
+    let s = start4 k4 in
+    let g = lists-good k4 in
+    let bad = sym (c .before .ordinary .ensures) ∙ not-true _ (c .if5 .taken) in
+    settle _ _ _ 6 0 0
+    (bad-owner (s .args .settings) (given s) (types s) (parent s) (creator s) (default s) (room s) (g .hr) (g .hp) (g .hc) (g .hd) bad)
 
 ordinary-requires-2 : tie.Need-ordinary-requires-2
 ordinary-requires-2 c κs = search needs
 
 returns-6 : tie.Need-returns-6
 returns-6 c =
-    let a = c .before .before .before .before .before .before .before .before .before .before .before .before .before .before .before .before .before .before .before .before .before .before .args in
-    let g = givenFor (a .rule) (a .settings) (a .mapping) (now (a .types)) (now (a .owner)) (now (a .group)) in
-    settle _ _ _ 6 0 0 (bad-group (a .settings) g (now (a .types)) (lent (a .settings .parent) (now (a .parent))) (lent (a .settings .creator) (now (a .creator))) (lent (a .settings .default) (now (a .default))) (length (now (a .out))) (rule-yes (c .before .before .before .before .before .before .before .before .before .before .before .before .before)) (parent-yes (c .before .before .before .before .before .before .before .before .before .before)) (creator-yes (c .before .before .before .before .before .before .before)) (default-yes (c .before .before .before .before)) (owner-yes (c .before .before)) (sym (c .before .ordinary2 .ensures) ∙ not-true _ (c .if6 .taken)))
+    let k5 = c .before .before in
+    let k4 = k5 .before .before in
+    let s = start4 k4 in
+    let g = lists-good k4 in
+    let bad = sym (c .before .ordinary2 .ensures) ∙ not-true _ (c .if6 .taken) in
+    settle _ _ _ 6 0 0
+    (bad-group (s .args .settings) (given s) (types s) (parent s) (creator s) (default s) (room s) (g .hr) (g .hp) (g .hc) (g .hd)
+    (owner-good k5) bad)
 
 types-ok-requires : tie.Need-types-ok-requires
 types-ok-requires c κs = search needs
 
 returns-7 : tie.Need-returns-7
 returns-7 c =
-    let a = c .before .before .before .before .before .before .before .before .before .before .before .before .before .before .before .before .before .before .before .before .before .before .before .before .args in
-    let g = givenFor (a .rule) (a .settings) (a .mapping) (now (a .types)) (now (a .owner)) (now (a .group)) in
-    settle _ _ _ 7 0 0 (bad-types (a .settings) g (now (a .types)) (lent (a .settings .parent) (now (a .parent))) (lent (a .settings .creator) (now (a .creator))) (lent (a .settings .default) (now (a .default))) (length (now (a .out))) (rule-yes (c .before .before .before .before .before .before .before .before .before .before .before .before .before .before .before)) (parent-yes (c .before .before .before .before .before .before .before .before .before .before .before .before)) (creator-yes (c .before .before .before .before .before .before .before .before .before)) (default-yes (c .before .before .before .before .before .before)) (owner-yes (c .before .before .before .before)) (group-yes (c .before .before)) (sym (c .before .types-ok .ensures) ∙ not-true _ (c .if7 .taken)))
+    let k6 = c .before .before in
+    let k5 = k6 .before .before in
+    let k4 = k5 .before .before in
+    let s = start4 k4 in
+    let g = lists-good k4 in
+    let bad = sym (c .before .types-ok .ensures) ∙ not-true _ (c .if7 .taken) in
+    settle _ _ _ 7 0 0
+    (bad-types (s .args .settings) (given s) (types s) (parent s) (creator s) (default s) (room s) (g .hr) (g .hp) (g .hc) (g .hd)
+    (owner-good k5) (group-good k6) bad)
 
 run-requires : tie.Need-run-requires
 run-requires c κs =
+    let k7 = c .before in
+    let k6 = k7 .before .before in
+    let k5 = k6 .before .before in
+    let k4 = k5 .before .before in
+    let k3 = k4 .before .before .before in
     record {
-      parent-found = record { is = c .before .before .before .before .before .before .before .before .before .before .before .before .before .before .before .source-of .ensures .0; good = c .before .before .before .before .before .before .before .before .before .before .before .before .before .if2 .left; few = c .before .before .before .before .before .before .before .before .before .before .before .before .before .before .before .source-of .ensures .1 };
-      creator-found = record { is = c .before .before .before .before .before .before .before .before .before .before .before .before .source-of2 .ensures .0; good = c .before .before .before .before .before .before .before .before .before .before .if3 .left; few = c .before .before .before .before .before .before .before .before .before .before .before .before .source-of2 .ensures .1 };
-      default-found = record { is = c .before .before .before .before .before .before .before .before .before .source-of3 .ensures .0; good = c .before .before .before .before .before .before .before .if4 .left; few = c .before .before .before .before .before .before .before .before .before .source-of3 .ensures .1 };
-      owner-good = owner-yes (c .before .before .before .before .before);
-      group-good = group-yes (c .before .before .before);
-      types-good = types-yes (c .before);
+      parent-found = parent-found (k3 .before .before .before);
+      creator-found = creator-found k3;
+      default-found = default-found k4;
+      owner-good = owner-good k5;
+      group-good = group-good k6;
+      types-good = types-good k7;
     }
 
 same-length : tie.Need-same-length
@@ -123,11 +231,19 @@ same-length c = search needs
 
 returns-8 : tie.Need-returns-8
 returns-8 c =
-    let a = c .before .before .before .before .before .before .before .before .before .before .before .before .before .before .before .before .before .before .before .before .before .before .before .before .before .before .before .before .args in
-    let g = givenFor (a .rule) (a .settings) (a .mapping) (now (a .types)) (now (a .owner)) (now (a .group)) in
+    let k7 = c .before .before .before .before in
+    let k6 = k7 .before .before in
+    let k5 = k6 .before .before in
+    let k4 = k5 .before .before in
+    let s = start4 k4 in
+    let g = lists-good k4 in
     let w = c .before .before .run .ensures in
-    let e = all-good (a .settings) g (now (a .types)) (lent (a .settings .parent) (now (a .parent))) (lent (a .settings .creator) (now (a .creator))) (lent (a .settings .default) (now (a .default))) (length (now (a .out))) (rule-yes (c .before .before .before .before .before .before .before .before .before .before .before .before .before .before .before .before .before .before .before)) (parent-yes (c .before .before .before .before .before .before .before .before .before .before .before .before .before .before .before .before)) (creator-yes (c .before .before .before .before .before .before .before .before .before .before .before .before .before)) (default-yes (c .before .before .before .before .before .before .before .before .before .before)) (owner-yes (c .before .before .before .before .before .before .before .before)) (group-yes (c .before .before .before .before .before .before)) (types-yes (c .before .before .before .before)) in
-    (w .0 ∙ sym e, w .1 ∙ ap (λ (x : Computed). outBy x (bytesFor (resultFor (a .rule) (a .settings) (a .mapping) (now (a .parent)) (now (a .creator)) (now (a .default)) (now (a .types)) (now (a .owner)) (now (a .group)))) (now (a .out))) (w .0 ∙ sym e))
+    let e =
+    w .0
+    ∙ sym
+    (all-good (s .args .settings) (given s) (types s) (parent s) (creator s) (default s) (room s) (g .hr) (g .hp) (g .hc) (g .hd)
+    (owner-good k5) (group-good k6) (types-good k7)) in
+    (e, w .1 ∙ ap (λ (x : Computed). outBy x (bytesFor (result s)) (now (s .args .out))) e)
 
 pub compute-spec : {M : Type 1} → statement M
 compute-spec =

@@ -5,26 +5,115 @@ use mathlib.Core.Path.{_≡_, sym, ap, ap₂, subst, _∙_}
 use mathlib.Core.List.{List}
 use Prim.Native.Nat.{ℕ}
 use denote.Ref.{now}
-use lib.ListN.{length}
+use lib.ListN.{length, take}
 use lib.Seq.{length-take-le}
+use Rattle.list.specs.declared.identities.Made.{Made}
+use Rattle.list.proofs.Sids.{Holds}
+use Rattle.inherit.specs.declared.branch.Plan.{Plan}
 use Rattle.inherit.specs.declared.whole.Part.{Part}
 use Rattle.inherit.specs.declared.whole.Parts.{Parts}
 use Rattle.inherit.specs.Given.{Given}
-use Rattle.inherit.specs.Compute.{withRoom, bytesFor, outBy}
+use Rattle.inherit.specs.Branch.{Result}
+use Rattle.inherit.specs.Compute.{withRoom, bytesFor, outBy, givenFor, resultFor}
 use Rattle.inherit.specs.Plan.{gathered, resultBy, Ready}
 use Rattle.inherit.proofs.Runs.{partsOf, held, four-most, parent-passes, ready, run-is, given-is}
 use Rattle.inherit.proofs.run.Statement.{statement}
 use Rattle.inherit.proofs.run.Tie as tie
 
-partsAre : {a b c x y z : Part} → a ≡ x → b ≡ y → c ≡ z → _≡_ {A = Parts} (record { own = a; parent = b; default = c }) (record { own = x; parent = y; default = z })
+partsAre : {a b c x y z : Part} → a ≡ x → b ≡ y → c ≡ z
+    → _≡_ {A = Parts} (record { own = a; parent = b; default = c }) (record { own = x; parent = y; default = z })
 partsAre p q r = rw (p, q, r)
+
+-- the front of its buffer that an identity fills
+front-long : {s : List ℕ} {m : Made} → Holds s m → length (take (m .sid .len) (m .sid .bytes)) ≡ m .sid .len
+front-long {m = m} h = length-take-le (m .sid .len) (m .sid .bytes) (omega (arith, h .most, h .wide))
+
+-- the arguments' bytes
+module _ (s : tie.Start) where
+  abbrev parent : List ℕ
+  parent = now (s .args .parent)
+
+  abbrev creator : List ℕ
+  creator = now (s .args .creator)
+
+  abbrev default : List ℕ
+  default = now (s .args .default)
+
+  abbrev types : List ℕ
+  types = now (s .args .types)
+
+  abbrev owner : List ℕ
+  owner = now (s .args .owner)
+
+  abbrev group : List ℕ
+  group = now (s .args .group)
+
+  abbrev given : Given
+  given = givenFor (s .args .rule) (s .args .settings) (s .args .mapping) types owner group
+
+  abbrev wanted : Result
+  wanted = resultFor (s .args .rule) (s .args .settings) (s .args .mapping) parent creator default types owner group
+
+-- once the plan is made
+abbrev start : tie.After-plan-for → tie.Start
+start c = c .before .before .before .before .before .before .before .before .before
+
+plan-gives : (c : tie.After-plan-for) → let s = start c in let q = c .plan-for .result in
+    resultBy q (gathered (given s) (partsOf q (s .args .p) (s .args .c) (s .args .d)) (parent s) (creator s) (default s)) ≡ wanted s
+plan-gives c =
+    let s = start c in
+    let a = s .args in
+    let h = c .before .any-heritable in
+    run-is (a .rule) (a .settings) (a .mapping) (a .p) (a .c) (a .d) (parent s) (creator s) (default s) (types s) (owner s) (group s) (s .pre)
+    (h .result) (h .ensures) (c .plan-for .result) (c .plan-for .ensures)
+
+-- once the parts are made
+module _ (c : tie.After-part-of3) where
+  abbrev start-parts : tie.Start
+  start-parts = start (c .before .before .before)
+
+  abbrev plan : Plan
+  plan = c .before .before .before .plan-for .result
+
+  abbrev parts : Parts
+  parts = record { own = c .before .before .part-of .result; parent = c .before .part-of2 .result; default = c .part-of3 .result }
+
+  parts-are : parts ≡ partsOf plan (start-parts .args .p) (start-parts .args .c) (start-parts .args .d)
+  parts-are = partsAre (c .before .before .part-of .ensures) (c .before .part-of2 .ensures) (c .part-of3 .ensures)
+
+  parts-ready : Ready parts (parent start-parts) (creator start-parts) (default start-parts)
+  parts-ready =
+      let s = start-parts in
+      let a = s .args in
+      subst (λ (x : Parts). Ready x (parent s) (creator s) (default s)) (sym parts-are)
+      (ready (a .rule) (a .settings) (a .mapping) (a .p) (a .c) (a .d) (parent s) (creator s) (default s) (types s) (owner s) (group s) (s .pre) plan)
+
+  -- what they give is the result
+  parts-give : (g : Given) → g ≡ given start-parts
+      → resultBy plan (gathered g parts (parent start-parts) (creator start-parts) (default start-parts)) ≡ wanted start-parts
+  parts-give g e =
+      let s = start-parts in
+      ap₂ (λ (x : Given) (y : Parts). resultBy plan (gathered x y (parent s) (creator s) (default s))) e parts-are ∙ plan-gives (c .before .before .before)
+
+-- once an identity is made: its buffer holds it
+abbrev start-owner : tie.After-from-bytes → tie.Start
+start-owner c = start-parts (c .before)
+
+owner-held : (c : tie.After-from-bytes) → Holds (owner (start-owner c)) (c .from-bytes .result)
+owner-held c = held (owner (start-owner c)) (c .from-bytes .result) (start-owner c .pre .owner-good) (c .from-bytes .ensures)
+
+abbrev start-group : tie.After-from-bytes2 → tie.Start
+start-group c = start-owner (c .before .before .before)
+
+group-held : (c : tie.After-from-bytes2) → Holds (group (start-group c)) (c .from-bytes2 .result)
+group-held c = held (group (start-group c)) (c .from-bytes2 .result) (start-group c .pre .group-good) (c .from-bytes2 .ensures)
 
 any-heritable-requires : tie.Need-any-heritable-requires
 any-heritable-requires c κs =
     let s = c .before .before .before .before .before .before .before in
     let a = s .args in
-    let t = s .pre in
-    parent-passes (a .rule) (a .settings) (a .mapping) (a .p) (a .c) (a .d) (now (a .parent)) (now (a .creator)) (now (a .default)) (now (a .types)) (now (a .owner)) (now (a .group)) t
+    parent-passes (a .rule) (a .settings) (a .mapping) (a .p) (a .c) (a .d)
+    (parent s) (creator s) (default s) (types s) (owner s) (group s) (s .pre)
 
 plan-for-requires : tie.Need-plan-for-requires
 plan-for-requires c κs = search needs
@@ -48,49 +137,26 @@ four-of-requires : tie.Need-four-of-requires
 four-of-requires c κs = search needs
 
 array-share-prefix-owner-bytes : tie.Need-array-share-prefix-owner-bytes
-array-share-prefix-owner-bytes c =
-    let s = c .before .before .before .before .before .before .before .before .before .before .before .before .before .before .before .before .before .before .before .before in
-    let a = s .args in
-    let t = s .pre in
-    let o = held (now (a .owner)) (c .before .before .before .before .before .before .before .from-bytes .result) (t .owner-good) (c .before .before .before .before .before .before .before .from-bytes .ensures) in
-    omega (arith, o .most, o .wide)
+array-share-prefix-owner-bytes c = let h = owner-held (c .before .before .before .before .before .before .before) in omega (arith, h .most, h .wide)
 
 slice-aggregate-fill : tie.Need-slice-aggregate-fill
-slice-aggregate-fill c =
-    let s = c .before .before .before .before .before .before .before .before .before .before .before .before .before .before .before .before .before .before .before .before .before in
-    let a = s .args in
-    let t = s .pre in
-    let o = held (now (a .owner)) (c .before .before .before .before .before .before .before .before .from-bytes .result) (t .owner-good) (c .before .before .before .before .before .before .before .before .from-bytes .ensures) in
-    sym (length-take-le (c .before .before .before .before .before .before .before .before .from-bytes .result .sid .len) (c .before .before .before .before .before .before .before .before .from-bytes .result .sid .bytes) (omega (arith, o .most, o .wide)))
+slice-aggregate-fill c = sym (front-long (owner-held (c .before .before .before .before .before .before .before .before)))
 
 array-share-prefix-group-bytes : tie.Need-array-share-prefix-group-bytes
-array-share-prefix-group-bytes c =
-    let s = c .before .before .before .before .before .before .before .before .before .before .before .before .before .before .before .before .before .before .before .before .before in
-    let a = s .args in
-    let t = s .pre in
-    let r = held (now (a .group)) (c .before .before .before .before .before .from-bytes2 .result) (t .group-good) (c .before .before .before .before .before .from-bytes2 .ensures) in
-    omega (arith, r .most, r .wide)
+array-share-prefix-group-bytes c = let h = group-held (c .before .before .before .before .before) in omega (arith, h .most, h .wide)
 
 slice-aggregate-fill-2 : tie.Need-slice-aggregate-fill-2
-slice-aggregate-fill-2 c =
-    let s = c .before .before .before .before .before .before .before .before .before .before .before .before .before .before .before .before .before .before .before .before .before .before in
-    let a = s .args in
-    let t = s .pre in
-    let r = held (now (a .group)) (c .before .before .before .before .before .before .from-bytes2 .result) (t .group-good) (c .before .before .before .before .before .before .from-bytes2 .ensures) in
-    sym (length-take-le (c .before .before .before .before .before .before .from-bytes2 .result .sid .len) (c .before .before .before .before .before .before .from-bytes2 .result .sid .bytes) (omega (arith, r .most, r .wide)))
+slice-aggregate-fill-2 c = sym (front-long (group-held (c .before .before .before .before .before .before)))
 
 fill-requires : tie.Need-fill-requires
 fill-requires c κs =
-    let s = c .before .before .before .before .before .before .before .before .before .before .before .before .before .before .before .before .before .before .before .before .before .before in
-    let a = s .args in
-    let t = s .pre in
-    let o = held (now (a .owner)) (c .before .before .before .before .before .before .before .before .before .from-bytes .result) (t .owner-good) (c .before .before .before .before .before .before .before .before .before .from-bytes .ensures) in
-    let r = held (now (a .group)) (c .before .before .before .before .before .before .from-bytes2 .result) (t .group-good) (c .before .before .before .before .before .before .from-bytes2 .ensures) in
-    let q = c .before .before .before .before .before .before .before .before .before .before .before .before .before .plan-for .result in
-    let n : record { own = c .before .before .before .before .before .before .before .before .before .before .before .before .part-of .result; parent = c .before .before .before .before .before .before .before .before .before .before .before .part-of2 .result; default = c .before .before .before .before .before .before .before .before .before .before .part-of3 .result } ≡ partsOf q (a .p) (a .c) (a .d) =
-    partsAre (c .before .before .before .before .before .before .before .before .before .before .before .before .part-of .ensures) (c .before .before .before .before .before .before .before .before .before .before .before .part-of2 .ensures) (c .before .before .before .before .before .before .before .before .before .before .part-of3 .ensures) in (
-      subst (λ (x : Parts). Ready x (now (a .parent)) (now (a .creator)) (now (a .default))) (sym n) (ready (a .rule) (a .settings) (a .mapping) (a .p) (a .c) (a .d) (now (a .parent)) (now (a .creator)) (now (a .default)) (now (a .types)) (now (a .owner)) (now (a .group)) t q),
-      (four-most (now (a .types)) (t .types-good), omega (arith, ap (λ (x : List ℕ). length x) (o .whole), o .long, o .most), omega (arith, ap (λ (x : List ℕ). length x) (r .whole), r .long, r .most)),
+    let kg = c .before .before .before .before .before .before in
+    let ko = kg .before .before .before in
+    let s = start-owner ko in
+    let o = owner-held ko in
+    let r = group-held kg in (
+      parts-ready (ko .before),
+      (four-most (types s) (s .pre .types-good), omega (arith, front-long o, o .most), omega (arith, front-long r, r .most)),
     )
 
 same-length : tie.Need-same-length
@@ -98,20 +164,16 @@ same-length c = search needs
 
 returns : tie.Need-returns
 returns c =
-    let s = c .before .before .before .before .before .before .before .before .before .before .before .before .before .before .before .before .before .before .before .before .before .before .before .before .before in
+    let k4 = c .before .before .before .before .before in
+    let kg = k4 .before .before .before .before in
+    let ko = kg .before .before .before in
+    let s = start-owner ko in
     let a = s .args in
-    let t = s .pre in
-    let o = held (now (a .owner)) (c .before .before .before .before .before .before .before .before .before .before .before .before .from-bytes .result) (t .owner-good) (c .before .before .before .before .before .before .before .before .before .before .before .before .from-bytes .ensures) in
-    let r = held (now (a .group)) (c .before .before .before .before .before .before .before .before .before .from-bytes2 .result) (t .group-good) (c .before .before .before .before .before .before .before .before .before .from-bytes2 .ensures) in
-    let q = c .before .before .before .before .before .before .before .before .before .before .before .before .before .before .before .before .plan-for .result in
-    let n : record { own = c .before .before .before .before .before .before .before .before .before .before .before .before .before .before .before .part-of .result; parent = c .before .before .before .before .before .before .before .before .before .before .before .before .before .before .part-of2 .result; default = c .before .before .before .before .before .before .before .before .before .before .before .before .before .part-of3 .result } ≡ partsOf q (a .p) (a .c) (a .d) =
-    partsAre (c .before .before .before .before .before .before .before .before .before .before .before .before .before .before .before .part-of .ensures) (c .before .before .before .before .before .before .before .before .before .before .before .before .before .before .part-of2 .ensures) (c .before .before .before .before .before .before .before .before .before .before .before .before .before .part-of3 .ensures) in
     let f = c .before .before .fill .ensures in
-    let g = given-is (a .rule) (a .settings) (a .mapping) (now (a .types)) (c .before .before .before .before .before .four-of .result) (now (a .owner)) (now (a .group)) _ _ (c .before .before .before .before .before .four-of .ensures) (o .whole) (r .whole) in
-    let e = ap₂ (λ (x : Given) (y : Parts). resultBy q (gathered x y (now (a .parent)) (now (a .creator)) (now (a .default)))) g n
-    ∙ run-is (a .rule) (a .settings) (a .mapping) (a .p) (a .c) (a .d) (now (a .parent)) (now (a .creator)) (now (a .default)) (now (a .types)) (now (a .owner)) (now (a .group)) t (c .before .before .before .before .before .before .before .before .before .before .before .before .before .before .before .before .before .any-heritable .result) (c .before .before .before .before .before .before .before .before .before .before .before .before .before .before .before .before .before .any-heritable .ensures) q (c .before .before .before .before .before .before .before .before .before .before .before .before .before .before .before .before .plan-for .ensures) in
-    let w = f .answer ∙ ap (withRoom (length (now (a .out)))) e in
-    (w, f .bytes ∙ ap₂ (λ x y. outBy x (bytesFor y) (now (a .out))) (sym (f .answer)) e)
+    let g = given-is (a .rule) (a .settings) (a .mapping) (types s) (k4 .four-of .result) (owner s) (group s) _ _
+    (k4 .four-of .ensures) (owner-held ko .whole) (group-held kg .whole) in
+    let e = parts-give (ko .before) _ g in
+    (f .answer ∙ ap (withRoom (length (now (a .out)))) e, f .bytes ∙ ap₂ (λ x y. outBy x (bytesFor y) (now (a .out))) (sym (f .answer)) e)
 
 pub run-spec : {M : Type 1} → statement M
 run-spec =

@@ -23,7 +23,9 @@ returns c =
     let t = now (s .args .t) in
     let q = s .pre .1 in
     let h : has (cond (s .args .terms .container) 2 1) (flagsOf t) ≡ false =
-    ap (λ (x : Entry). has (cond (s .args .terms .container) 2 1) (x .flags)) (sym q) ∙ sym (c .before .inherits .ensures) ∙ not-true _ (c .if1 .taken) in
+    ap (λ (x : Entry). has (cond (s .args .terms .container) 2 1) (x .flags)) (sym q)
+    ∙ sym (c .before .inherits .ensures)
+    ∙ not-true _ (c .if1 .taken) in
     λ owner group. rw h
 
 type-applies-requires : tie.Need-type-applies-requires
@@ -36,7 +38,9 @@ returns-2 c =
     let t = now (s .args .t) in
     let q = s .pre .1 in
     let h : has (cond (s .args .terms .container) 2 1) (flagsOf t) ≡ true =
-    ap (λ (x : Entry). has (cond (s .args .terms .container) 2 1) (x .flags)) (sym q) ∙ sym (c .before .before .inherits .ensures) ∙ not-false _ (c .before .if1 .left) in
+    ap (λ (x : Entry). has (cond (s .args .terms .container) 2 1) (x .flags)) (sym q)
+    ∙ sym (c .before .before .inherits .ensures)
+    ∙ not-false _ (c .before .if1 .left) in
     λ owner group. rw h
     (c .type-applies .ensures
     ∙ ap (λ (x : Entry). cond (objectKind (x .kind)) (has 1 (x .word) && among (guidAt t 12) (take (s .args .terms .count) (s .args .types))) true) q)

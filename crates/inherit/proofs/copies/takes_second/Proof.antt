@@ -17,8 +17,9 @@ has-requires c κs = search needs
 
 returns-2 : tie.Need-returns-2
 returns-2 c =
-    let e : c .before .before .before .args .container ≡ true = not-false _ (c .before .before .if1 .left) in
-    let h : has 3 (c .before .before .before .args .flags) ≡ false = sym (c .before .has .ensures) ∙ not-true _ (c .if2 .taken) in
+    let a = c .before .before .before .args in
+    let e : a .container ≡ true = not-false _ (c .before .before .if1 .left) in
+    let h : has 3 (a .flags) ≡ false = sym (c .before .has .ensures) ∙ not-true _ (c .if2 .taken) in
     rw (e, h)
 
 has-requires-2 : tie.Need-has-requires-2
@@ -26,8 +27,9 @@ has-requires-2 c κs = search needs
 
 returns-3 : tie.Need-returns-3
 returns-3 c =
-    let e : c .before .before .before .before .args .container ≡ true = not-false _ (c .before .before .before .if1 .left) in
-    let h : has 3 (c .before .before .before .before .args .flags) ≡ true = sym (c .before .before .has .ensures) ∙ not-false _ (c .before .if2 .left) in
+    let a = c .before .before .before .before .args in
+    let e : a .container ≡ true = not-false _ (c .before .before .before .if1 .left) in
+    let h : has 3 (a .flags) ≡ true = sym (c .before .before .has .ensures) ∙ not-false _ (c .before .if2 .left) in
     rw (e, h) (ap not (c .has2 .ensures))
 
 pub takes-second-spec : {M : Type 1} → statement M

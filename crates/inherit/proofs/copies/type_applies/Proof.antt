@@ -32,7 +32,8 @@ returns-3 : tie.Need-returns-3
 returns-3 c =
     let a = c .before .before .before .before .before .before .args in
     let e = sym (c .before .before .before .before .is-object .ensures) ∙ not-false _ (c .before .before .before .if1 .left) in
-    simp (e, ne-eqb _ _ (c .before .before .if2 .left)) (c .among .ensures ∙ ap (λ (x : List ℕ). among x (take (a .count) (a .types))) (c .before .guid-at .ensures))
+    simp (e, ne-eqb _ _ (c .before .before .if2 .left))
+    (c .among .ensures ∙ ap (λ (x : List ℕ). among x (take (a .count) (a .types))) (c .before .guid-at .ensures))
 
 pub type-applies-spec : {M : Type 1} → statement M
 type-applies-spec =

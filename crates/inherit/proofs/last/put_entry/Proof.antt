@@ -20,7 +20,8 @@ regroup : (a b c d e : List ℕ) → (((a ++ b) ++ c) ++ d) ++ e ≡ a ++ (b ++ 
 regroup a b c d e = simp append-assoc
 
 whole : (kind flags mask : ℕ) (mid sid tail : List ℕ)
-    → (kind ∷ flags ∷ []) ++ (spell 2 (8 + length mid + length sid + length tail) ++ spell 4 mask) ++ mid ++ sid ++ tail ≡ entryBytes kind flags mask mid sid tail
+    → (kind ∷ flags ∷ []) ++ (spell 2 (8 + length mid + length sid + length tail) ++ spell 4 mask) ++ mid ++ sid ++ tail
+    ≡ entryBytes kind flags mask mid sid tail
 unfolding entryBytes
 whole kind flags mask mid sid tail =
     let e : 8 + length mid + length sid + length tail ≡ 8 + (length mid + (length sid + length tail)) = omega arith in
@@ -79,8 +80,11 @@ same-length c = search needs
 
 returns : tie.Need-returns
 returns c =
-    let h = c .before .before .before .before .before .before .before .before .before .before .before .before .before .before in
-    let s = c .before .before .before .before .before .before .before .before .before .before .before .before .before .before .before .before .before .before .before .before in
+    let p3 = c .before .before in
+    let p2 = p3 .before .before .before .before in
+    let p1 = p2 .before .before .before .before in
+    let h = p1 .before .before .before .before in
+    let s = h .before .before .before .before .before .before in
     let a = s .args in
     let mid = now (a .middle) in
     let sid = now (a .sid) in
@@ -88,14 +92,12 @@ returns c =
     let d = now (a .out) in
     let hd = (a .kind ∷ a .flags ∷ []) ++ (spell 2 (8 + length mid + length sid + length tail) ++ spell 4 (a .mask)) in
     let k : length hd ≡ 8 = eight (a .kind) (a .flags) (8 + length mid + length sid + length tail) (a .mask) in
-    let p1 = c .before .before .before .before .before .before .before .before .before .before in
     let one = tail-put hd mid d (h .put-head .last .0) (p1 .put .last .0) 8 (h .put-head .ensures) (p1 .put .ensures) k (omega (arith, s .pre)) in
     let l1 = length-append hd mid in
-    let p2 = c .before .before .before .before .before .before in
     let two = tail-put (hd ++ mid) sid d _ (p2 .put2 .last .0) (8 + length mid) one (p2 .put2 .ensures) (omega arith) (omega (arith, s .pre)) in
     let l2 = length-append (hd ++ mid) sid in
-    let p3 = c .before .before in
-    let three = tail-put (hd ++ mid ++ sid) tail d _ (p3 .put3 .last .0) (8 + length mid + length sid) two (p3 .put3 .ensures) (omega arith) (omega (arith, s .pre)) in
+    let three = tail-put (hd ++ mid ++ sid) tail d _ (p3 .put3 .last .0) (8 + length mid + length sid) two (p3 .put3 .ensures)
+    (omega arith) (omega (arith, s .pre)) in
     (omega arith, three ∙ ap (λ (z : List ℕ). front z d) (whole (a .kind) (a .flags) (a .mask) mid sid tail))
 
 pub put-entry-spec : {M : Type 1} → statement M

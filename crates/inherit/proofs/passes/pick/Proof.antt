@@ -10,13 +10,16 @@ use Rattle.inherit.proofs.passes.pick.Statement.{statement}
 use Rattle.inherit.proofs.passes.pick.Tie as tie
 
 fields-here : (c : tie.After-e) → c .e .given .0 .0 ≡ fieldsOf (now (c .before .before .before .before .args .t))
-fields-here c = fields access (c .before .before .before .before .args .rev) _ _ (sym (c .before .before .entry-of .ensures) ∙ c .e .given .1)
+fields-here c =
+    let k = c .before .before in
+    fields access (k .before .before .args .rev) _ _ (sym (k .entry-of .ensures) ∙ c .e .given .1)
 
 bad-never : (c : tie.After-enum-told) → ⊥
 bad-never c =
-    let s = c .before .before .before .before in
+    let k = c .before .before in
+    let s = k .before .before in
     let g = is-good access (s .args .rev) (now (s .args .t)) (s .pre .1) in
-    let b = sym (c .before .before .entry-of .ensures) ∙ c .enum-told .given .1 in
+    let b = sym (k .entry-of .ensures) ∙ c .enum-told .given .1 in
     let z : _≡_ {A = ℕ} 0 1 = cc in
     omega arith
 

@@ -1,17 +1,42 @@
 -- The parts as the code cuts them, put together. Assumes nothing.
 use native.Mathlib.Omega.{arith}
 use borrow.Author.Needs.{needs}
-use mathlib.Core.Path.{ap, ap₂, _∙_}
+use mathlib.Core.Path.{_≡_, ap, ap₂, _∙_}
 use mathlib.Core.List.{List}
-use Prim.Native.Nat.{ℕ, _-_}
+use Prim.Native.Nat.{ℕ, _+_, _-_}
 use denote.Ref.{now}
 use lib.ListN.{length, take, drop}
 use Rattle.list.specs.Bytes.{front}
-use Rattle.list.specs.Entry.{middleOf, entryBytes}
+use Rattle.list.specs.Entry.{middleOf, tailOf, entryBytes}
 use Rattle.inherit.specs.Emit.{putIn}
 use Rattle.inherit.proofs.Lying.{middle-part, tail-part, put-in-is, copy-size}
 use Rattle.inherit.proofs.passes.put_copy.Statement.{statement}
 use Rattle.inherit.proofs.passes.put_copy.Tie as tie
+
+-- once it is known what stands in the SID's place: the parts as the code cuts them
+module _ (c : tie.After-in-place) where
+  abbrev start : tie.Start
+  start = c .before .before .before .before .before .before
+
+  abbrev bytes : List ℕ
+  bytes = now (start .args .t)
+
+  abbrev sid : List ℕ
+  sid = putIn bytes (now (start .args .owner)) (now (start .args .group))
+
+  middle-is : take (start .args .sid - 8) (drop 8 bytes) ≡ middleOf bytes
+  middle-is = middle-part bytes (start .args .sid) (start .args .end) (start .args .size) (start .pre .0)
+
+  sid-is : now (c .in-place .result) ≡ sid
+  sid-is =
+      let a = start .args in
+      c .in-place .ensures ∙ put-in-is bytes (a .sid) (a .end) (a .size) (start .pre .0) (now (a .owner)) (now (a .group))
+
+  tail-is : take (start .args .size - start .args .end) (drop (start .args .end) bytes) ≡ tailOf bytes
+  tail-is = tail-part bytes (start .args .sid) (start .args .end) (start .args .size) (start .pre .0)
+
+  size-is : 8 + (length (middleOf bytes) + (length sid + length (tailOf bytes))) ≡ start .args .sid + length sid + (start .args .size - start .args .end)
+  size-is = copy-size bytes (start .args .sid) (start .args .end) (start .args .size) (start .pre .0) (length sid)
 
 sub-in-place : tie.Need-sub-in-place
 sub-in-place c = search needs
@@ -45,31 +70,27 @@ part-put-entry-end-2 c = search needs
 
 put-entry-requires : tie.Need-put-entry-requires
 put-entry-requires c κs =
-    let s = c .before .before .before .before .before .before .before .before .before in
-    let a = s .args in
-    let t = now (a .t) in
-    let l = s .pre .0 in
-    let i = c .before .before .before .in-place .ensures ∙ put-in-is t (a .sid) (a .end) (a .size) l (now (a .owner)) (now (a .group)) in
-    omega (arith, s .pre .1, copy-size t (a .sid) (a .end) (a .size) l (length (putIn t (now (a .owner)) (now (a .group)))), ap length (middle-part t (a .sid) (a .end) (a .size) l), ap length i, ap length (tail-part t (a .sid) (a .end) (a .size) l))
+    let k = c .before .before .before in
+    let s = start k in
+    let m = ap length (middle-is k) in
+    let i = ap length (sid-is k) in
+    let z = ap length (tail-is k) in
+    omega (arith, s .pre .1, size-is k)
 
 same-length : tie.Need-same-length
 same-length c = search needs
 
 returns : tie.Need-returns
 returns c =
-    let s = c .before .before .before .before .before .before .before .before .before .before .before .before in
-    let a = s .args in
-    let t = now (a .t) in
-    let l = s .pre .0 in
-    let m = middle-part t (a .sid) (a .end) (a .size) l in
-    let i = c .before .before .before .before .before .before .in-place .ensures ∙ put-in-is t (a .sid) (a .end) (a .size) l (now (a .owner)) (now (a .group)) in
-    let z = tail-part t (a .sid) (a .end) (a .size) l in
-    let p = c .before .before .put-entry .ensures in (
-      omega (arith, p .0, copy-size t (a .sid) (a .end) (a .size) l (length (putIn t (now (a .owner)) (now (a .group)))), ap length m, ap length i, ap length z),
-      p .1 ∙ ap (λ (w : List ℕ). front w (now (a .out)))
-          (ap₂ (λ (x y : List ℕ). entryBytes (a .kind) (a .flags) (a .mask) x y (take (a .size - a .end) (drop (a .end) t))) m i
-          ∙ ap (λ (x : List ℕ). entryBytes (a .kind) (a .flags) (a .mask) (middleOf t) (putIn t (now (a .owner)) (now (a .group))) x) z),
-    )
+    let k = c .before .before .before .before .before .before in
+    let a = start k .args in
+    let m = middle-is k in
+    let i = sid-is k in
+    let z = tail-is k in
+    let w = c .before .before .put-entry .ensures in
+    let e = ap₂ (λ (x y : List ℕ). entryBytes (a .kind) (a .flags) (a .mask) x y (take (a .size - a .end) (drop (a .end) (bytes k)))) m i
+    ∙ ap (λ (x : List ℕ). entryBytes (a .kind) (a .flags) (a .mask) (middleOf (bytes k)) (sid k) x) z in
+    (omega (arith, w .0, size-is k, ap length m, ap length i, ap length z), w .1 ∙ ap (λ (x : List ℕ). front x (now (a .out))) e)
 
 pub put-copy-spec : {M : Type 1} → statement M
 put-copy-spec =

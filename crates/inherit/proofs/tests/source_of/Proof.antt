@@ -28,24 +28,25 @@ enum-known-count c = search needs
 
 read-source-requires : tie.Need-read-source-requires
 read-source-requires c κs =
-    let d = told access (now (c .before .before .before .before .before .before .args .list)) _ _ (sym (c .before .before .before .check .ensures) ∙ c .before .count .given .1) in
+    let k = c .before .before .before in
+    let d = told access (now (k .before .before .before .args .list)) _ _ (sym (k .check .ensures) ∙ c .before .count .given .1) in
     omega (arith, d .listed .head .long)
 
 returns-2 : tie.Need-returns-2
 unfolding sourceOf sourceBy
 returns-2 c =
-    let s = now (c .before .before .before .before .before .before .args .list) in
-    let e : c .before .before .before .before .before .before .args .given ≡ true = not-false _ (c .before .before .before .before .if1 .left) in
-    let k = sym (c .before .before .before .check .ensures) ∙ c .before .number .given .1 in
-    (rw (e, k), omega arith)
+    let k = c .before .before .before in
+    let given : k .before .before .before .args .given ≡ true = not-false _ (k .before .if1 .left) in
+    let e = sym (k .check .ensures) ∙ c .before .number .given .1 in
+    (rw (given, e), omega arith)
 
 returns-3 : tie.Need-returns-3
 unfolding sourceOf sourceBy
 returns-3 c =
-    let s = now (c .before .before .before .before .before .before .before .args .list) in
-    let e : c .before .before .before .before .before .before .before .args .given ≡ true = not-false _ (c .before .before .before .before .before .if1 .left) in
-    let k = sym (c .before .before .before .before .check .ensures) ∙ c .before .before .count .given .1 in
-    (rw (e, k) (c .read-source .ensures .0), c .read-source .ensures .1)
+    let k = c .before .before .before .before in
+    let given : k .before .before .before .args .given ≡ true = not-false _ (k .before .if1 .left) in
+    let e = sym (k .check .ensures) ∙ c .before .before .count .given .1 in
+    (rw (given, e) (c .read-source .ensures .0), c .read-source .ensures .1)
 
 pub source-of-spec : {M : Type 1} → statement M
 source-of-spec =

@@ -1,14 +1,63 @@
 -- Four passes, and their measures together. Assumes nothing.
 use borrow.Author.Needs.{needs}
 use native.Mathlib.Omega.{arith}
-use mathlib.Core.Path.{ap, ap₂, _∙_}
+use mathlib.Core.Path.{_≡_, ap, ap₂, _∙_}
+use mathlib.Core.List.{List}
+use Prim.Native.Nat.{ℕ, suc, _*_, _≤_}
 use denote.Ref.{now}
 use Rattle.inherit.specs.declared.passes.Measure.{Measure}
 use Rattle.inherit.specs.declared.copies.Pass.the-variants.{First, Second, Own, All}
+use Rattle.inherit.specs.Given.{Given}
 use Rattle.inherit.specs.Emit.{givenBy, emitted, both}
 use Rattle.inherit.proofs.Gather.{measure-four}
 use Rattle.inherit.proofs.whole.measure_all.Statement.{statement}
 use Rattle.inherit.proofs.whole.measure_all.Tie as tie
+
+-- no more than n passes measure
+record Within (n : ℕ) (m : Measure) : Type 0 where
+  bytes : m .bytes ≤ 4299292605 * n
+  count : m .count ≤ 65535 * n
+
+within-one : (n : ℕ) (m : Measure) → n ≤ 65535 → m .bytes ≤ 65603 * n → m .count ≤ n → Within 1 m
+within-one n m few b k = record { bytes = omega arith; count = omega arith }
+
+within-more : (n : ℕ) (a b m : Measure) → Within 1 a → Within n b → m ≡ both a b → Within (suc n) m
+within-more n a b m x y e =
+    let eb = ap (λ (z : Measure). z .bytes) e in
+    let ek = ap (λ (z : Measure). z .count) e in
+    record { bytes = omega (arith, x .bytes, y .bytes); count = omega (arith, x .count, y .count) }
+
+-- once each pass is measured
+module _ (c : tie.After-measure-pass4) where
+  abbrev start : tie.Start
+  start = c .before .before .before .before .before .before .before .before .before .before .before .before
+
+  own-within : Within 1 (c .before .before .before .measure-pass .result)
+  own-within =
+      let e = c .before .before .before .measure-pass .ensures in
+      within-one _ _ (start .pre .0 .own .few) (e .1) (e .2)
+
+  first-within : Within 1 (c .before .before .measure-pass2 .result)
+  first-within =
+      let e = c .before .before .measure-pass2 .ensures in
+      within-one _ _ (start .pre .0 .parent .few) (e .1) (e .2)
+
+  second-within : Within 1 (c .before .measure-pass3 .result)
+  second-within =
+      let e = c .before .measure-pass3 .ensures in
+      within-one _ _ (start .pre .0 .parent .few) (e .1) (e .2)
+
+  all-within : Within 1 (c .measure-pass4 .result)
+  all-within =
+      let e = c .measure-pass4 .ensures in
+      within-one _ _ (start .pre .0 .default .few) (e .1) (e .2)
+
+-- the last two together, and the last three
+two-within : (c : tie.After-both) → Within 2 (c .both .result)
+two-within c = within-more 1 _ _ (c .both .result) (second-within (c .before)) (all-within (c .before)) (c .both .ensures)
+
+three-within : (c : tie.After-both2) → Within 3 (c .both2 .result)
+three-within c = within-more 2 _ _ (c .both2 .result) (first-within (c .before .before)) (two-within (c .before)) (c .both2 .ensures)
 
 measure-pass-requires : tie.Need-measure-pass-requires
 measure-pass-requires c κs = search needs
@@ -22,53 +71,43 @@ measure-pass-requires-3 c κs = search needs
 measure-pass-requires-4 : tie.Need-measure-pass-requires-4
 measure-pass-requires-4 c κs =
     let s = c .before .before .before .before .before .before .before .before .before .before .before in
-    let a = s .args in
     let r = s .pre .0 in
-    let g = givenBy (a .terms) (a .types) (now (a .owner)) (now (a .group)) in
     ((r .default .passes, r .default .few), s .pre .1)
 
 both-requires : tie.Need-both-requires
 both-requires c κs =
-    let s = c .before .before .before .before .before .before .before .before .before .before .before .before in
-    let a = s .args in
-    let r = s .pre .0 in
-    let g = givenBy (a .terms) (a .types) (now (a .owner)) (now (a .group)) in
-    omega (arith, r .own .few, r .parent .few, r .default .few, c .measure-pass4 .ensures, c .before .measure-pass3 .ensures, c .before .before .measure-pass2 .ensures, c .before .before .before .measure-pass .ensures)
+    let x = second-within c in
+    let y = all-within c in
+    omega (arith, x .bytes, y .bytes, x .count, y .count)
 
 both-requires-2 : tie.Need-both-requires-2
 both-requires-2 c κs =
-    let s = c .before .before .before .before .before .before .before .before .before .before .before .before .before in
-    let a = s .args in
-    let r = s .pre .0 in
-    let g = givenBy (a .terms) (a .types) (now (a .owner)) (now (a .group)) in
-    omega (arith, r .own .few, r .parent .few, r .default .few, c .before .measure-pass4 .ensures, c .before .before .measure-pass3 .ensures, c .before .before .before .measure-pass2 .ensures, c .before .before .before .before .measure-pass .ensures, ap (λ (m : Measure). m .bytes) (c .both .ensures), ap (λ (m : Measure). m .count) (c .both .ensures))
+    let x = first-within (c .before) in
+    let y = two-within c in
+    omega (arith, x .bytes, y .bytes, x .count, y .count)
 
 both-requires-3 : tie.Need-both-requires-3
 both-requires-3 c κs =
-    let s = c .before .before .before .before .before .before .before .before .before .before .before .before .before .before in
-    let a = s .args in
-    let r = s .pre .0 in
-    let g = givenBy (a .terms) (a .types) (now (a .owner)) (now (a .group)) in
-    omega (arith, r .own .few, r .parent .few, r .default .few, c .before .before .measure-pass4 .ensures, c .before .before .before .measure-pass3 .ensures, c .before .before .before .before .measure-pass2 .ensures, c .before .before .before .before .before .measure-pass .ensures, ap (λ (m : Measure). m .bytes) (c .before .both .ensures), ap (λ (m : Measure). m .count) (c .before .both .ensures), ap (λ (m : Measure). m .bytes) (c .both2 .ensures), ap (λ (m : Measure). m .count) (c .both2 .ensures))
+    let x = own-within (c .before .before) in
+    let y = three-within c in
+    omega (arith, x .bytes, y .bytes, x .count, y .count)
 
 returns : tie.Need-returns
 returns c =
-    let s = c .before .before .before .before .before .before .before .before .before .before .before .before .before .before .before in
-    let a = s .args in
-    let r = s .pre .0 in
+    let k3 = c .before in
+    let k2 = k3 .before in
+    let k = k2 .before in
+    let a = start k .args in
     let g = givenBy (a .terms) (a .types) (now (a .owner)) (now (a .group)) in
-    let A = emitted g Own (a .parts .own .count) (now (a .creator)) in
-    let B = emitted g First (a .parts .parent .count) (now (a .parent)) in
-    let C = emitted g Second (a .parts .parent .count) (now (a .parent)) in
-    let D = emitted g All (a .parts .default .count) (now (a .default)) in (
-      c .both3 .ensures
-          ∙ ap₂ both (c .before .before .before .before .before .before .measure-pass .ensures .0)
-          (c .before .both2 .ensures
-          ∙ ap₂ both (c .before .before .before .before .before .measure-pass2 .ensures .0)
-          (c .before .before .both .ensures ∙ ap₂ both (c .before .before .before .before .measure-pass3 .ensures .0) (c .before .before .before .measure-pass4 .ensures .0)))
-          ∙ measure-four A B C D,
-      omega (arith, r .own .few, r .parent .few, r .default .few, c .before .before .before .measure-pass4 .ensures, c .before .before .before .before .measure-pass3 .ensures, c .before .before .before .before .before .measure-pass2 .ensures, c .before .before .before .before .before .before .measure-pass .ensures, ap (λ (m : Measure). m .bytes) (c .before .before .both .ensures), ap (λ (m : Measure). m .bytes) (c .before .both2 .ensures), ap (λ (m : Measure). m .bytes) (c .both3 .ensures)),
-    )
+    let own = emitted g Own (a .parts .own .count) (now (a .creator)) in
+    let first = emitted g First (a .parts .parent .count) (now (a .parent)) in
+    let second = emitted g Second (a .parts .parent .count) (now (a .parent)) in
+    let all = emitted g All (a .parts .default .count) (now (a .default)) in
+    let two = k2 .both .ensures ∙ ap₂ both (k .before .measure-pass3 .ensures .0) (k .measure-pass4 .ensures .0) in
+    let three = k3 .both2 .ensures ∙ ap₂ both (k .before .before .measure-pass2 .ensures .0) two in
+    let four = c .both3 .ensures ∙ ap₂ both (k .before .before .before .measure-pass .ensures .0) three in
+    let w = within-more 3 _ _ (c .both3 .result) (own-within k) (three-within k3) (c .both3 .ensures) in
+    (four ∙ measure-four own first second all, omega (arith, w .bytes))
 
 pub measure-all-spec : {M : Type 1} → statement M
 measure-all-spec =

@@ -32,7 +32,8 @@ returns c =
     let a = c .before .before .before .before .before .before .before .before .args in
     let w = c .before .before .write-pass .ensures in
     let g = givenBy (a .terms) (a .types) (now (a .owner)) (now (a .group)) in
-    (ap (λ (n : ℕ). a .at + n) (w .0), onward-tail (a .at) (flatten (emitted g (a .pass) (a .part .count) (now (a .list)))) (now (a .out)) (c .before .before .write-pass .last .0) (w .1))
+    let es = emitted g (a .pass) (a .part .count) (now (a .list)) in
+    (ap (λ (n : ℕ). a .at + n) (w .0), onward-tail (a .at) (flatten es) (now (a .out)) (c .before .before .write-pass .last .0) (w .1))
 
 pub write-next-spec : {M : Type 1} → statement M
 write-next-spec =
