@@ -12,7 +12,8 @@ use Rattle.list.specs.Entry.{access, objectKind, kindOf, flagsOf, sizeOf, wordO
 use Rattle.list.specs.List.{cut}
 use Rattle.list.specs.Good.{Sound}
 use Rattle.list.proofs.Sids.{sid-most}
-use Rattle.list.proofs.Remade.{bounds, set-flags, set-kind, set-mask, set-middle, set-sid, set-tail, cut-same, cut-middle, cut-sid, cut-tail, cut-length, cut-guid, typed-long, length-entry}
+use Rattle.list.proofs.Remade.{bounds, set-flags, set-kind, set-mask, set-middle, set-sid, set-tail, typed-long, length-entry}
+use Rattle.list.proofs.Remade.{cut-same, cut-middle, cut-sid, cut-tail, cut-length, cut-guid}
 use Rattle.inherit.specs.declared.copies.Pass.{Pass}
 use Rattle.inherit.specs.declared.copies.Pass.the-variants.{First, Second, Own, All}
 use Rattle.inherit.specs.declared.Mapping.{Mapping}

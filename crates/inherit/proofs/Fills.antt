@@ -95,8 +95,8 @@ module _ (g : Given) (q : Plan) (n : Parts) (p c d : List ℕ) where
           record { answer = rw (h, e, f); bytes = rw (h, e, f) o }
 
       -- the same, of the measure that the code has
-      pub fill-measured : (m : Measure) → m ≡ measureOf (gathered g n p c d) → 8 + m .bytes ≤ length out → 8 + m .bytes ≤ 65532 → (out′ : List ℕ)
-          → out′ ≡ front (render (revFor (gathered g n p c d)) (gathered g n p c d)) out
+      pub fill-measured : (m : Measure) → m ≡ measureOf (gathered g n p c d) → 8 + m .bytes ≤ length out → 8 + m .bytes ≤ 65532
+          → (out′ : List ℕ) → out′ ≡ front (render (revFor (gathered g n p c d)) (gathered g n p c d)) out
           → Filled g q n p c d out (Present (8 + m .bytes) (m .count) (q .control)) out′
       fill-measured m e k j out′ o =
           let b = ap (λ (z : Measure). z .bytes) e in

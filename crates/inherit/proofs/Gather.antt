@@ -1,12 +1,13 @@
 -- Four passes together.
 use mathlib.Core.Path.{_≡_, refl, sym, ap, _∙_}
 use mathlib.Core.List.{List, _++_, flatten, append-assoc, append-nil}
-use Prim.Native.Nat.{ℕ, _+_, _-_, _≤_}
+use Prim.Native.Nat.{ℕ, suc, _+_, _-_, _*_, _≤_}
 use native.Mathlib.Omega.{arith}
 use lib.ListN.{length, take, drop, length-append, length-drop, drop-of-length-le}
 use lib.Seq.{length-take-le, take-all}
 use Rattle.list.specs.Bytes.{front}
 use Rattle.list.proofs.Writes.{length-front, front-then}
+use Rattle.inherit.specs.declared.passes.Measure.{Measure}
 use Rattle.inherit.specs.Emit.{measureOf, both}
 use Rattle.inherit.specs.Plan.{onward}
 use Rattle.inherit.proofs.Emits.{flatten-append, measure-append}
@@ -30,6 +31,20 @@ module _ (a b c d : List (List ℕ)) where
       ap (λ (x : List ℕ). length x) flatten-four
       ∙ length-append (flatten a ++ flatten b ++ flatten c) (flatten d)
       ∙ omega (arith, length-append (flatten a ++ flatten b) (flatten c), length-append (flatten a) (flatten b))
+
+-- no more than n passes over a list measure: at most 65,603 bytes for each of 65,535 entries
+pub record Within (n : ℕ) (m : Measure) : Type 0 where
+  pub bytes : m .bytes ≤ 65603 * (65535 * n)
+  pub count : m .count ≤ 65535 * n
+
+pub within-one : (n : ℕ) (m : Measure) → n ≤ 65535 → m .bytes ≤ 65603 * n → m .count ≤ n → Within 1 m
+within-one n m few b k = record { bytes = omega arith; count = omega arith }
+
+pub within-more : (n : ℕ) (a b m : Measure) → Within 1 a → Within n b → m ≡ both a b → Within (suc n) m
+within-more n a b m x y e =
+    let eb = ap (λ (z : Measure). z .bytes) e in
+    let ek = ap (λ (z : Measure). z .count) e in
+    record { bytes = omega (arith, x .bytes, y .bytes); count = omega (arith, x .count, y .count) }
 
 -- a writer on `&mut x[at..]`, once the tail is back with ys in it
 pub onward-tail : (at : ℕ) (w x ys : List ℕ) → ys ≡ front w (take (length x - at) (drop at x))

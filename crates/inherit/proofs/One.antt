@@ -83,5 +83,9 @@ module _ (rev : ℕ) (t : List ℕ) (s : Sound access rev t) (e : Entry) (q : e 
           ∙ ap (λ (x : Entry). objectKind (x .kind)) (sym q)
 
       pub gives-one : measureOf (emitOf g p t)
-          ≡ record { bytes = e .sid + length (putIn t (g .owner) (g .group)) + (e .size - (e .sid + e .«sid_len»)); count = 1; object = objectKind (e .kind) }
+          ≡ record {
+            bytes = e .sid + length (putIn t (g .owner) (g .group)) + (e .size - (e .sid + e .«sid_len»));
+            count = 1;
+            object = objectKind (e .kind);
+          }
       gives-one = measures length-one (ap length one) object-one

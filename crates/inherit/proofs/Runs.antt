@@ -4,7 +4,8 @@ use mathlib.Core.Bool.{Bool, true, false, cond}
 use mathlib.Core.List.{List}
 use Prim.Native.Nat.{ℕ, _/_, _%_, _≤_}
 use native.Mathlib.Omega.{arith}
-use lib.ListN.{length, drop}
+use lib.ListN.{length, take, drop}
+use lib.Seq.{length-take-le}
 use lib.Dec.{eqb, leb}
 use borrow.Author.Tests.{eqb-true, leb-true}
 use Rattle.list.specs.Entry.{access}
@@ -46,6 +47,10 @@ one-sid-of b h = identity-zero b (eqb-true (identityOf b) 0 h)
 
 pub held : (b : List ℕ) (m : Made) → ordinary b ≡ true → m ≡ madeOf b → Holds b m
 held b m h e = subst (Holds b) (sym e) (made-holds b (one-sid-of b h .0))
+
+-- the front of its buffer that it fills
+pub front-long : {b : List ℕ} {m : Made} → Holds b m → length (take (m .sid .len) (m .sid .bytes)) ≡ m .sid .len
+front-long {m = m} h = length-take-le (m .sid .len) (m .sid .bytes) (omega (arith, h .most, h .wide))
 
 -- at most four object types
 pub four-most : (types : List ℕ) → typesOk types ≡ true → length types / 16 ≤ 4

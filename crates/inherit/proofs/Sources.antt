@@ -38,9 +38,19 @@ unfolding sourceOf entriesIf
 sourced-of true s h = by-reading s (checkOf access s) refl h
 sourced-of false s h = record { passes = tt; entries = sym (cut-none (drop 8 s)); wholes = tt }
 
+-- what the code found of a list passes as the definition does, and refuses as it does
+pub still-good : {o : Optional} {src : Source} → Found o src → sourceOf o .number ≡ 0
+still-good f = ap (λ (x : Source). x .number) (sym (f .is)) ∙ f .good
+
+pub still-bad : {x y : Source} → x ≡ y → (x .number ≡ 0 → ⊥) → y .number ≡ 0 → ⊥
+still-bad e h n = h (ap (λ (z : Source). z .number) e ∙ n)
+
+pub refuses : {x y : Source} (w : ℕ) → x ≡ y
+    → _≡_ {A = Computed} (Refused (x .number) w (x .offset)) (Refused (y .number) w (y .offset))
+refuses w e = ap {B = Computed} (λ (z : Source). Refused (z .number) w (z .offset)) e
+
 pub sourced : (b : Bool) (s : List ℕ) (src : Source) → Found (lent b s) src → Sourced b s src
-sourced b s src f =
-    subst (Sourced b s) (sym (f .is)) (sourced-of b s (ap (λ (x : Source). x .number) (sym (f .is)) ∙ f .good))
+sourced b s src f = subst (Sourced b s) (sym (f .is)) (sourced-of b s (still-good f))
 
 -- a list that was found good is passed over, another one is the answer
 on-reading : (r : Reading) (rev which : ℕ) (rest : Computed) → ListNumber r → (sourceBy r rev .number ≡ 0 → onReading r which rest ≡ rest)

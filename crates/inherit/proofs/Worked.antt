@@ -67,32 +67,44 @@ pub record Case : Type 0 where
 case : Settings → Given → Optional → Optional → ℕ → Values → List ℕ → Case
 case s g p c room v bytes = record { settings = s; given = g; parent = p; creator = c; room = room; answer = v; bytes = bytes }
 
--- those that hold under either rule, with no creator
+-- the rows: the arguments, and below them what is wanted; first those that hold under either rule, with no creator
 either : ℕ → List Case
 either rule =
     -- K1 container; K2 not a container
-    case (with true false) (given rule true system) (present (parentWith 0x03)) absent 48 (done 48 1 2 0) (listed 0x30 2 (inherited 0x10 ∷ inherited 0x1B ∷ []))
-    ∷ case (with true false) (given rule false system) (present (parentWith 0x03)) absent 28 (done 28 1 1 0) (listed 0x1C 1 (inherited 0x10 ∷ []))
+    case (with true false) (given rule true system) (present (parentWith 0x03)) absent 48
+    (done 48 1 2 0) (listed 0x30 2 (inherited 0x10 ∷ inherited 0x1B ∷ []))
+    ∷ case (with true false) (given rule false system) (present (parentWith 0x03)) absent 28
+    (done 28 1 1 0) (listed 0x1C 1 (inherited 0x10 ∷ []))
     -- K3 parent flags 07; K4 parent flags 01; K5 parent flags 0B
-    ∷ case (with true false) (given rule true system) (present (parentWith 0x07)) absent 28 (done 28 1 1 0) (listed 0x1C 1 (inherited 0x10 ∷ []))
-    ∷ case (with true false) (given rule true system) (present (parentWith 0x01)) absent 28 (done 28 1 1 0) (listed 0x1C 1 (inherited 0x19 ∷ []))
-    ∷ case (with true false) (given rule true system) (present (parentWith 0x0B)) absent 48 (done 48 1 2 0) (listed 0x30 2 (inherited 0x10 ∷ inherited 0x1B ∷ []))
+    ∷ case (with true false) (given rule true system) (present (parentWith 0x07)) absent 28
+    (done 28 1 1 0) (listed 0x1C 1 (inherited 0x10 ∷ []))
+    ∷ case (with true false) (given rule true system) (present (parentWith 0x01)) absent 28
+    (done 28 1 1 0) (listed 0x1C 1 (inherited 0x19 ∷ []))
+    ∷ case (with true false) (given rule true system) (present (parentWith 0x0B)) absent 48
+    (done 48 1 2 0) (listed 0x30 2 (inherited 0x10 ∷ inherited 0x1B ∷ []))
     -- K6 parent without inheritable entries, no default
-    ∷ case (with true false) (given rule true system) (present (parentWith 0x00)) absent 48 (done 0 0 0 0) []
+    ∷ case (with true false) (given rule true system) (present (parentWith 0x00)) absent 48
+    (done 0 0 0 0) []
     -- K10 protected
-    ∷ case (with true true) (given rule true system) (present (parentWith 0x03)) absent 48 (done 48 1 2 0) (listed 0x30 2 (inherited 0x10 ∷ inherited 0x1B ∷ []))
+    ∷ case (with true true) (given rule true system) (present (parentWith 0x03)) absent 48
+    (done 48 1 2 0) (listed 0x30 2 (inherited 0x10 ∷ inherited 0x1B ∷ []))
     -- K11 owner S-1-3-0
-    ∷ case (with true false) (given rule true (creator 0)) (present (parentWith 0x03)) absent 48 (refused 6 0 0) []
+    ∷ case (with true false) (given rule true (creator 0)) (present (parentWith 0x03)) absent 48
+    (refused 6 0 0) []
     -- K12 K1 with room 47
-    ∷ case (with true false) (given rule true system) (present (parentWith 0x03)) absent 47 (refused 8 0 0) []
+    ∷ case (with true false) (given rule true system) (present (parentWith 0x03)) absent 47
+    (refused 8 0 0) []
     ∷ []
 
 pub table : List Case
 table =
     -- K7 rule 1, a creator of one plain entry, protected: nothing; K8 under rule 2: that entry alone; K9 not protected: that entry, then K1's two
-    case (with true true) (given 1 true system) (present (parentWith 0x03)) (present (listed 0x1C 1 (plain ∷ []))) 8 (done 8 1 0 0) (listed 0x08 0 [])
-    ∷ case (with true true) (given 2 true system) (present (parentWith 0x03)) (present (listed 0x1C 1 (plain ∷ []))) 28 (done 28 1 1 0) (listed 0x1C 1 (plain ∷ []))
-    ∷ case (with true false) (given 2 true system) (present (parentWith 0x03)) (present (listed 0x1C 1 (plain ∷ []))) 68 (done 68 1 3 0x0400) (listed 0x44 3 (plain ∷ inherited 0x10 ∷ inherited 0x1B ∷ []))
+    case (with true true) (given 1 true system) (present (parentWith 0x03)) (present (listed 0x1C 1 (plain ∷ []))) 8
+    (done 8 1 0 0) (listed 0x08 0 [])
+    ∷ case (with true true) (given 2 true system) (present (parentWith 0x03)) (present (listed 0x1C 1 (plain ∷ []))) 28
+    (done 28 1 1 0) (listed 0x1C 1 (plain ∷ []))
+    ∷ case (with true false) (given 2 true system) (present (parentWith 0x03)) (present (listed 0x1C 1 (plain ∷ []))) 68
+    (done 68 1 3 0x0400) (listed 0x44 3 (plain ∷ inherited 0x10 ∷ inherited 0x1B ∷ []))
     ∷ (either 1 ++ either 2)
 
 -- the answer, and a buffer of as many zeros as there is room
@@ -109,7 +121,11 @@ pub wanted : Case → Outcome
 wanted k = record { answer = k .answer; out = k .bytes ++ replicate (k .room - length (k .bytes)) 0 }
 
 pub worked : map computed table ≡ map wanted table
-unfolding table either case computed wanted flatten computeOf needed readable onReading ruleOk withRoom anyObject bytesFor outBy resultOf branch withCreator fromDefault inheritedBit lastStep lastOf resolved entryBytes mapped inPlace fromCreator own fromParent secondPart takesSecond firstPart takesFirst kept pass typeApplies among anyHeritable entriesIf typesOk checkOf finish walkOf onGood headBytes render entriesOf cut headerOk revOk entryOf need tailOk wordAfter headOf flagsOk kindOk objectKind objectOf plainOf identityOf placeholderOf isSid sidLen guidAt sameBytes spell le
+unfolding table either case computed wanted flatten computeOf needed readable onReading ruleOk withRoom anyObject bytesFor outBy resultOf branch
+    withCreator fromDefault inheritedBit lastStep lastOf resolved entryBytes mapped inPlace fromCreator own fromParent secondPart takesSecond
+    firstPart takesFirst kept pass typeApplies among anyHeritable entriesIf typesOk checkOf finish walkOf onGood headBytes render entriesOf cut
+    headerOk revOk entryOf need tailOk wordAfter headOf flagsOk kindOk objectKind objectOf plainOf identityOf placeholderOf isSid sidLen guidAt
+    sameBytes spell le
 worked = refl
 
 -- each generic bit joins its mapping, and stays; 10000000 adds nothing

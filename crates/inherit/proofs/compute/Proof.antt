@@ -8,13 +8,13 @@ use borrow.Author.Tests.{not-true, not-false}
 use denote.Ref.{now}
 use lib.ListN.{length}
 use Rattle.list.specs.Entry.{access}
-use Rattle.inherit.specs.declared.tests.Source.{Source}
 use Rattle.inherit.specs.declared.Computed.{Computed}
 use Rattle.inherit.specs.declared.Computed.the-variants.{Refused}
 use Rattle.inherit.specs.Given.{Given, Optional, lent, typesOk}
 use Rattle.inherit.specs.Branch.{Result, resultOf}
 use Rattle.inherit.specs.Compute.{ordinary, ruleOk, bytesFor, outBy, givenFor}
 use Rattle.inherit.specs.Source.{sourceOf, Found}
+use Rattle.inherit.proofs.Sources.{still-good, still-bad, refuses}
 use Rattle.inherit.proofs.Refusals.{bad-rule, bad-parent, bad-creator, bad-default, bad-owner, bad-group, bad-types, all-good}
 use Rattle.inherit.proofs.compute.Statement.{statement}
 use Rattle.inherit.proofs.compute.Tie as tie
@@ -24,17 +24,7 @@ settle : (x : Computed) (bytes out : List ℕ) (k w at : ℕ) → Refused k w at
 unfolding outBy
 settle x bytes out k w at e = (e, subst (λ (y : Computed). out ≡ outBy y bytes out) e refl)
 
--- what the code found of a list refuses as the definition does, and passes as it does
-refuses : {x y : Source} (w : ℕ) → x ≡ y → _≡_ {A = Computed} (Refused (x .number) w (x .offset)) (Refused (y .number) w (y .offset))
-refuses w e = ap {B = Computed} (λ (z : Source). Refused (z .number) w (z .offset)) e
-
-still-bad : {x y : Source} → x ≡ y → (x .number ≡ 0 → ⊥) → y .number ≡ 0 → ⊥
-still-bad e h n = h (ap (λ (z : Source). z .number) e ∙ n)
-
-still-good : {o : Optional} {x : Source} → Found o x → sourceOf o .number ≡ 0
-still-good f = sym (ap (λ (z : Source). z .number) (f .is)) ∙ f .good
-
--- where the call begins, from behind each test that was passed
+-- where the call begins, from behind each test that was passed; below, k1 to k7 are these places
 abbrev start1 : tie.Else1 → tie.Start
 start1 c = c .before .before .before .before .before .before .before .before .before
 
@@ -107,19 +97,24 @@ group-good c = sym (c .before .ordinary2 .ensures) ∙ not-false _ (c .if6 .left
 types-good : (c : tie.Else7) → typesOk (types (start7 c)) ≡ true
 types-good c = sym (c .before .types-ok .ensures) ∙ not-false _ (c .if7 .left)
 
--- the rule and the three lists were found good
+-- the tests of the rule and of the three lists were passed
 record Readable (s : tie.Start) : Type 0 where
-  hr : ruleOk (s .args .rule) ≡ true
-  hp : sourceOf (parent s) .number ≡ 0
-  hc : sourceOf (creator s) .number ≡ 0
-  hd : sourceOf (default s) .number ≡ 0
+  rule-passed : ruleOk (s .args .rule) ≡ true
+  parent-passed : sourceOf (parent s) .number ≡ 0
+  creator-passed : sourceOf (creator s) .number ≡ 0
+  default-passed : sourceOf (default s) .number ≡ 0
 
 lists-good : (c : tie.Else4) → Readable (start4 c)
 lists-good c =
     let k3 = c .before .before .before in
     let k2 = k3 .before .before .before in
     let k1 = k2 .before .before .before in
-    record { hr = rule-good k1; hp = still-good (parent-found k2); hc = still-good (creator-found k3); hd = still-good (default-found c) }
+    record {
+      rule-passed = rule-good k1;
+      parent-passed = still-good (parent-found k2);
+      creator-passed = still-good (creator-found k3);
+      default-passed = still-good (default-found c);
+    }
 
 rule-ok-requires : tie.Need-rule-ok-requires
 rule-ok-requires c κs = search needs
@@ -179,7 +174,8 @@ returns-5 c =
     let g = lists-good k4 in
     let bad = sym (c .before .ordinary .ensures) ∙ not-true _ (c .if5 .taken) in
     settle _ _ _ 6 0 0
-    (bad-owner (s .args .settings) (given s) (types s) (parent s) (creator s) (default s) (room s) (g .hr) (g .hp) (g .hc) (g .hd) bad)
+    (bad-owner (s .args .settings) (given s) (types s) (parent s) (creator s) (default s) (room s)
+    (g .rule-passed) (g .parent-passed) (g .creator-passed) (g .default-passed) bad)
 
 ordinary-requires-2 : tie.Need-ordinary-requires-2
 ordinary-requires-2 c κs = search needs
@@ -192,8 +188,8 @@ returns-6 c =
     let g = lists-good k4 in
     let bad = sym (c .before .ordinary2 .ensures) ∙ not-true _ (c .if6 .taken) in
     settle _ _ _ 6 0 0
-    (bad-group (s .args .settings) (given s) (types s) (parent s) (creator s) (default s) (room s) (g .hr) (g .hp) (g .hc) (g .hd)
-    (owner-good k5) bad)
+    (bad-group (s .args .settings) (given s) (types s) (parent s) (creator s) (default s) (room s)
+    (g .rule-passed) (g .parent-passed) (g .creator-passed) (g .default-passed) (owner-good k5) bad)
 
 types-ok-requires : tie.Need-types-ok-requires
 types-ok-requires c κs = search needs
@@ -207,8 +203,8 @@ returns-7 c =
     let g = lists-good k4 in
     let bad = sym (c .before .types-ok .ensures) ∙ not-true _ (c .if7 .taken) in
     settle _ _ _ 7 0 0
-    (bad-types (s .args .settings) (given s) (types s) (parent s) (creator s) (default s) (room s) (g .hr) (g .hp) (g .hc) (g .hd)
-    (owner-good k5) (group-good k6) bad)
+    (bad-types (s .args .settings) (given s) (types s) (parent s) (creator s) (default s) (room s)
+    (g .rule-passed) (g .parent-passed) (g .creator-passed) (g .default-passed) (owner-good k5) (group-good k6) bad)
 
 run-requires : tie.Need-run-requires
 run-requires c κs =
@@ -238,11 +234,9 @@ returns-8 c =
     let s = start4 k4 in
     let g = lists-good k4 in
     let w = c .before .before .run .ensures in
-    let e =
-    w .0
-    ∙ sym
-    (all-good (s .args .settings) (given s) (types s) (parent s) (creator s) (default s) (room s) (g .hr) (g .hp) (g .hc) (g .hd)
-    (owner-good k5) (group-good k6) (types-good k7)) in
+    let a = all-good (s .args .settings) (given s) (types s) (parent s) (creator s) (default s) (room s)
+    (g .rule-passed) (g .parent-passed) (g .creator-passed) (g .default-passed) (owner-good k5) (group-good k6) (types-good k7) in
+    let e = w .0 ∙ sym a in
     (e, w .1 ∙ ap (λ (x : Computed). outBy x (bytesFor (result s)) (now (s .args .out))) e)
 
 pub compute-spec : {M : Type 1} → statement M

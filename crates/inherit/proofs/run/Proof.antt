@@ -5,9 +5,7 @@ use mathlib.Core.Path.{_≡_, sym, ap, ap₂, subst, _∙_}
 use mathlib.Core.List.{List}
 use Prim.Native.Nat.{ℕ}
 use denote.Ref.{now}
-use lib.ListN.{length, take}
-use lib.Seq.{length-take-le}
-use Rattle.list.specs.declared.identities.Made.{Made}
+use lib.ListN.{length}
 use Rattle.list.proofs.Sids.{Holds}
 use Rattle.inherit.specs.declared.branch.Plan.{Plan}
 use Rattle.inherit.specs.declared.whole.Part.{Part}
@@ -16,17 +14,13 @@ use Rattle.inherit.specs.Given.{Given}
 use Rattle.inherit.specs.Branch.{Result}
 use Rattle.inherit.specs.Compute.{withRoom, bytesFor, outBy, givenFor, resultFor}
 use Rattle.inherit.specs.Plan.{gathered, resultBy, Ready}
-use Rattle.inherit.proofs.Runs.{partsOf, held, four-most, parent-passes, ready, run-is, given-is}
+use Rattle.inherit.proofs.Runs.{partsOf, held, front-long, four-most, parent-passes, ready, run-is, given-is}
 use Rattle.inherit.proofs.run.Statement.{statement}
 use Rattle.inherit.proofs.run.Tie as tie
 
 partsAre : {a b c x y z : Part} → a ≡ x → b ≡ y → c ≡ z
     → _≡_ {A = Parts} (record { own = a; parent = b; default = c }) (record { own = x; parent = y; default = z })
 partsAre p q r = rw (p, q, r)
-
--- the front of its buffer that an identity fills
-front-long : {s : List ℕ} {m : Made} → Holds s m → length (take (m .sid .len) (m .sid .bytes)) ≡ m .sid .len
-front-long {m = m} h = length-take-le (m .sid .len) (m .sid .bytes) (omega (arith, h .most, h .wide))
 
 -- the arguments' bytes
 module _ (s : tie.Start) where

@@ -34,6 +34,13 @@ module _ (c : tie.After-pick) where
   lies-here : Lies bytes (fields .sid) (fields .sid + fields .«sid_len») (fields .size)
   lies-here = lies (start .args .rev) bytes (start .pre .0) fields (c .pick .ensures .0)
 
+-- the entry is taken
+taken : (c : tie.Else1) → let k = c .before .before .before in takesBy (given k) (start k .args .pass) (bytes k) ≡ true
+taken c =
+    let k = c .before .before .before in
+    let a = start k .args in
+    sym (k .pick .ensures .1 (now (a .owner)) (now (a .group))) ∙ not-false _ (c .if1 .left)
+
 pick-requires : tie.Need-pick-requires
 pick-requires c κs = search needs
 
@@ -62,13 +69,13 @@ is-object-requires c κs = search needs
 
 returns-2 : tie.Need-returns-2
 returns-2 c =
-    let k = c .before .before .before .before .before .before in
+    let e = c .before .before .before in
+    let k = e .before .before .before in
     let s = start k in
     let a = s .args in
-    let q = k .pick .ensures in
-    let h : takesBy (given k) (a .pass) (bytes k) ≡ true = sym (q .1 (now (a .owner)) (now (a .group))) ∙ not-false _ (c .before .before .before .if1 .left) in
-    let o = gives-one (a .rev) (bytes k) (s .pre .0) (fields k) (q .0) (given k) (a .pass) h in
-    (ap (λ (x : Entry). x .size) (q .0), measures (c .before .copy-len .ensures) refl (c .is-object .ensures) ∙ sym o)
+    let q = k .pick .ensures .0 in
+    let o = gives-one (a .rev) (bytes k) (s .pre .0) (fields k) q (given k) (a .pass) (taken e) in
+    (ap (λ (x : Entry). x .size) q, measures (c .before .copy-len .ensures) refl (c .is-object .ensures) ∙ sym o)
 
 pub measure-one-spec : {M : Type 1} → statement M
 measure-one-spec =

@@ -8,7 +8,6 @@ use lib.ListN.{length, take, drop, length-drop}
 use Rattle.list.specs.Bytes.{front}
 use Rattle.list.specs.Entry.{access, sizeOf}
 use Rattle.list.specs.Good.{Sound}
-use Rattle.inherit.specs.declared.copies.Pass.{Pass}
 use Rattle.inherit.specs.Given.{Given}
 use Rattle.inherit.specs.Emit.{givenBy, emitOf}
 use Rattle.inherit.proofs.Loops.{rest-is, next-entry, inside, Writing, writing-none, to-fits, long, one-fits, writing-turn, written-all}
@@ -77,7 +76,8 @@ module _ (c : tie.In-loop Inv-loop μ-loop) where
   fits-here =
       let l = c .before .loop in
       let a = begun .args in
-      one-fits (given begun) (a .pass) (a .rev) (bytes begun) (a .n) (buffer begun) (l .out) (l .to) (l .at) (l .left) (l .inv) (begun .pre .1) (c .loop-test .taken)
+      one-fits (given begun) (a .pass) (a .rev) (bytes begun) (a .n) (buffer begun) (l .out) (l .to) (l .at) (l .left) (l .inv) (begun .pre .1)
+      (c .loop-test .taken)
 
 -- after a turn's call: what it answers and leaves, of that entry
 module _ (c : tie.After-write-one Inv-loop μ-loop) where
@@ -100,7 +100,8 @@ module _ (c : tie.After-write-one Inv-loop μ-loop) where
       let l = turn .before .loop in
       c .write-one .ensures .2
       ∙ ap
-      (λ (t : List ℕ). front (flatten (emitOf (given (begun turn)) (begun turn .args .pass) t)) (take (length (l .out) - l .to) (drop (l .to) (l .out)))) rest-here
+      (λ (t : List ℕ). front (flatten (emitOf (given (begun turn)) (begun turn .args .pass) t)) (take (length (l .out) - l .to) (drop (l .to) (l .out))))
+      rest-here
 
 loop-holds : tie.Need-loop-holds Inv-loop μ-loop
 loop-holds c =

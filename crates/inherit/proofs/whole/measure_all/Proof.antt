@@ -1,31 +1,13 @@
 -- Four passes, and their measures together. Assumes nothing.
 use borrow.Author.Needs.{needs}
 use native.Mathlib.Omega.{arith}
-use mathlib.Core.Path.{_≡_, ap, ap₂, _∙_}
-use mathlib.Core.List.{List}
-use Prim.Native.Nat.{ℕ, suc, _*_, _≤_}
+use mathlib.Core.Path.{ap₂, _∙_}
 use denote.Ref.{now}
-use Rattle.inherit.specs.declared.passes.Measure.{Measure}
 use Rattle.inherit.specs.declared.copies.Pass.the-variants.{First, Second, Own, All}
-use Rattle.inherit.specs.Given.{Given}
 use Rattle.inherit.specs.Emit.{givenBy, emitted, both}
-use Rattle.inherit.proofs.Gather.{measure-four}
+use Rattle.inherit.proofs.Gather.{measure-four, Within, within-one, within-more}
 use Rattle.inherit.proofs.whole.measure_all.Statement.{statement}
 use Rattle.inherit.proofs.whole.measure_all.Tie as tie
-
--- no more than n passes measure
-record Within (n : ℕ) (m : Measure) : Type 0 where
-  bytes : m .bytes ≤ 4299292605 * n
-  count : m .count ≤ 65535 * n
-
-within-one : (n : ℕ) (m : Measure) → n ≤ 65535 → m .bytes ≤ 65603 * n → m .count ≤ n → Within 1 m
-within-one n m few b k = record { bytes = omega arith; count = omega arith }
-
-within-more : (n : ℕ) (a b m : Measure) → Within 1 a → Within n b → m ≡ both a b → Within (suc n) m
-within-more n a b m x y e =
-    let eb = ap (λ (z : Measure). z .bytes) e in
-    let ek = ap (λ (z : Measure). z .count) e in
-    record { bytes = omega (arith, x .bytes, y .bytes); count = omega (arith, x .count, y .count) }
 
 -- once each pass is measured
 module _ (c : tie.After-measure-pass4) where
