@@ -43,7 +43,8 @@ pt-read-determined κs a x y s t p q = (p .1 ∙ sym (q .1), p .0 ∙ sym (q .0)
 
 -- the result's buffer and the answer afterwards
 pub pt-compute-determined : Determines 7 pt-compute.ps pt-compute.r
-    (λ κs x y s t. (now (s .1 .1 .1 .1 .1 .1 .1 .1 .1 .0) ≡ now (t .1 .1 .1 .1 .1 .1 .1 .1 .1 .0)) × (now (s .1 .1 .1 .1 .1 .1 .1 .1 .1 .1 .0) ≡ now (t .1 .1 .1 .1 .1 .1 .1 .1 .1 .1 .0)))
+    (λ κs x y s t. (now (s .1 .1 .1 .1 .1 .1 .1 .1 .1 .0) ≡ now (t .1 .1 .1 .1 .1 .1 .1 .1 .1 .0))
+    × (now (s .1 .1 .1 .1 .1 .1 .1 .1 .1 .1 .0) ≡ now (t .1 .1 .1 .1 .1 .1 .1 .1 .1 .1 .0)))
     pt-compute-reads.Learnt
 pt-compute-determined κs a x y s t p q = (p .1 ∙ sym (q .1), p .0 ∙ sym (q .0))
 
@@ -52,35 +53,44 @@ pub pt-room-determined : OneResult 0 pt-room.ps pt-room.r pt-room-reads.Learnt
 pt-room-determined κs a x y s t p q = p ∙ sym q
 
 -- the room, or the buffer that is read into, and the answer afterwards
-pub pt-start-determined : Determines 4 pt-start.ps pt-start.r (λ κs x y s t. (now (s .0) ≡ now (t .0)) × (now (s .1 .1 .1 .1 .1 .1 .1 .0) ≡ now (t .1 .1 .1 .1 .1 .1 .1 .0))) pt-start-reads.Learnt
+pub pt-start-determined : Determines 4 pt-start.ps pt-start.r
+    (λ κs x y s t. (now (s .0) ≡ now (t .0)) × (now (s .1 .1 .1 .1 .1 .1 .1 .0) ≡ now (t .1 .1 .1 .1 .1 .1 .1 .0))) pt-start-reads.Learnt
 pt-start-determined κs a x y s t p q = (p .1 ∙ sym (q .1), p .0 ∙ sym (q .0))
 
-pub pt-add-determined : Determines 6 pt-add.ps pt-add.r (λ κs x y s t. (now (s .0) ≡ now (t .0)) × (now (s .1 .1 .1 .1 .1 .1 .1 .0) ≡ now (t .1 .1 .1 .1 .1 .1 .1 .0))) pt-add-reads.Learnt
+pub pt-add-determined : Determines 6 pt-add.ps pt-add.r
+    (λ κs x y s t. (now (s .0) ≡ now (t .0)) × (now (s .1 .1 .1 .1 .1 .1 .1 .0) ≡ now (t .1 .1 .1 .1 .1 .1 .1 .0))) pt-add-reads.Learnt
 pt-add-determined κs a x y s t p q = (p .1 ∙ sym (q .1), p .0 ∙ sym (q .0))
 
-pub pt-set-list-determined : Determines 3 pt-set-list.ps pt-set-list.r (λ κs x y s t. (now (s .0) ≡ now (t .0)) × (now (s .1 .1 .1 .1 .0) ≡ now (t .1 .1 .1 .1 .0))) pt-set-list-reads.Learnt
+pub pt-set-list-determined : Determines 3 pt-set-list.ps pt-set-list.r
+    (λ κs x y s t. (now (s .0) ≡ now (t .0)) × (now (s .1 .1 .1 .1 .0) ≡ now (t .1 .1 .1 .1 .0))) pt-set-list-reads.Learnt
 pt-set-list-determined κs a x y s t p q = (p .1 ∙ sym (q .1), p .0 ∙ sym (q .0))
 
-pub pt-set-mark-determined : Determines 2 pt-set-mark.ps pt-set-mark.r (λ κs x y s t. (now (s .0) ≡ now (t .0)) × (now (s .1 .1 .1 .0) ≡ now (t .1 .1 .1 .0))) pt-set-mark-reads.Learnt
+pub pt-set-mark-determined : Determines 2 pt-set-mark.ps pt-set-mark.r
+    (λ κs x y s t. (now (s .0) ≡ now (t .0)) × (now (s .1 .1 .1 .0) ≡ now (t .1 .1 .1 .0))) pt-set-mark-reads.Learnt
 pt-set-mark-determined κs a x y s t p q = (p .1 ∙ sym (q .1), p .0 ∙ sym (q .0))
 
-pub pt-set-owner-determined : Determines 4 pt-set-owner.ps pt-set-owner.r (λ κs x y s t. (now (s .0) ≡ now (t .0)) × (now (s .1 .1 .1 .1 .0) ≡ now (t .1 .1 .1 .1 .0))) pt-set-owner-reads.Learnt
+pub pt-set-owner-determined : Determines 4 pt-set-owner.ps pt-set-owner.r
+    (λ κs x y s t. (now (s .0) ≡ now (t .0)) × (now (s .1 .1 .1 .1 .0) ≡ now (t .1 .1 .1 .1 .0))) pt-set-owner-reads.Learnt
 pt-set-owner-determined κs a x y s t p q = (p .1 ∙ sym (q .1), p .0 ∙ sym (q .0))
 
 pub pt-undo-determined : Determines 2 pt-undo.ps pt-undo.r (λ κs x y s t. (now (s .0) ≡ now (t .0)) × (now (s .1 .0) ≡ now (t .1 .0))) pt-undo-reads.Learnt
 pt-undo-determined κs a x y s t p q = (p .1 ∙ sym (q .1), p .0 ∙ sym (q .0))
 
-pub pt-list-determined : Determines 3 pt-list.ps pt-list.r (λ κs x y s t. (now (s .1 .1 .0) ≡ now (t .1 .1 .0)) × (now (s .1 .1 .1 .0) ≡ now (t .1 .1 .1 .0))) pt-list-reads.Learnt
+pub pt-list-determined : Determines 3 pt-list.ps pt-list.r
+    (λ κs x y s t. (now (s .1 .1 .0) ≡ now (t .1 .1 .0)) × (now (s .1 .1 .1 .0) ≡ now (t .1 .1 .1 .0))) pt-list-reads.Learnt
 pt-list-determined κs a x y s t p q = (p .1 ∙ sym (q .1), p .0 ∙ sym (q .0))
 
-pub pt-own-determined : Determines 3 pt-own.ps pt-own.r (λ κs x y s t. (now (s .1 .1 .0) ≡ now (t .1 .1 .0)) × (now (s .1 .1 .1 .0) ≡ now (t .1 .1 .1 .0))) pt-own-reads.Learnt
+pub pt-own-determined : Determines 3 pt-own.ps pt-own.r
+    (λ κs x y s t. (now (s .1 .1 .0) ≡ now (t .1 .1 .0)) × (now (s .1 .1 .1 .0) ≡ now (t .1 .1 .1 .0))) pt-own-reads.Learnt
 pt-own-determined κs a x y s t p q = (p .1 ∙ sym (q .1), p .0 ∙ sym (q .0))
 
-pub pt-data-determined : Determines 3 pt-data.ps pt-data.r (λ κs x y s t. (now (s .1 .1 .0) ≡ now (t .1 .1 .0)) × (now (s .1 .1 .1 .0) ≡ now (t .1 .1 .1 .0))) pt-data-reads.Learnt
+pub pt-data-determined : Determines 3 pt-data.ps pt-data.r
+    (λ κs x y s t. (now (s .1 .1 .0) ≡ now (t .1 .1 .0)) × (now (s .1 .1 .1 .0) ≡ now (t .1 .1 .1 .0))) pt-data-reads.Learnt
 pt-data-determined κs a x y s t p q = (p .1 ∙ sym (q .1), p .0 ∙ sym (q .0))
 
 pub pt-counts-determined : Determines 2 pt-counts.ps pt-counts.r (λ κs x y s t. now (s .1 .0) ≡ now (t .1 .0)) pt-counts-reads.Learnt
 pt-counts-determined κs a x y s t p q = p ∙ sym q
 
-pub pt-play-determined : Determines 3 pt-play.ps pt-play.r (λ κs x y s t. (now (s .1 .0) ≡ now (t .1 .0)) × (now (s .1 .1 .0) ≡ now (t .1 .1 .0))) pt-play-reads.Learnt
+pub pt-play-determined : Determines 3 pt-play.ps pt-play.r
+    (λ κs x y s t. (now (s .1 .0) ≡ now (t .1 .0)) × (now (s .1 .1 .0) ≡ now (t .1 .1 .0))) pt-play-reads.Learnt
 pt-play-determined κs a x y s t p q = (p .1 ∙ sym (q .1), p .0 ∙ sym (q .0))

@@ -15,10 +15,17 @@ used-most : {n : ℕ} (held : ℕ) (b r : List ℕ) → n ≡ runOf (take held b
 used-most held b r e = omega (arith, run-used (take held b) r, length-take held b)
 
 abbrev Inv-loop : tie.InvT-loop
-Inv-loop room₀ buffer₀ at₀ held₀ left₀ room buffer at held left = (held ≤ length buffer) × ((length buffer ≡ length buffer₀) × ((length room ≡ length room₀) × (at + held + left ≤ 9223372036854775813)))
+Inv-loop room₀ buffer₀ at₀ held₀ left₀ room buffer at held left =
+    (held ≤ length buffer)
+    × ((length buffer ≡ length buffer₀) × ((length room ≡ length room₀) × (at + held + left ≤ 9223372036854775813)))
 
 abbrev μ-loop : tie.MeasureT-loop
 μ-loop room₀ buffer₀ at₀ held₀ left₀ room buffer at held left = left
+
+-- no more bytes are played than were held after the read
+played-most : (c : tie.After-advance Inv-loop μ-loop)
+    → c .advance .result .used ≤ c .before .before .before .before .before .before .before .before .before .read-more .result .bytes
+played-most c = used-most _ _ _ (c .advance .ensures .0 .0)
 
 loop-holds : tie.Need-loop-holds Inv-loop μ-loop
 loop-holds c = search needs
@@ -63,10 +70,10 @@ advance-requires : tie.Need-advance-requires Inv-loop μ-loop
 advance-requires c κs = search needs
 
 add-at : tie.Need-add-at Inv-loop μ-loop
-add-at c = let u : c .before .before .before .before .advance .result .used ≤ c .before .before .before .before .before .before .before .before .before .before .before .before .before .read-more .result .bytes = used-most _ _ _ (c .before .before .before .before .advance .ensures .0 .0) in omega arith
+add-at c = let u = played-most (c .before .before .before .before) in omega arith
 
 sub-held : tie.Need-sub-held Inv-loop μ-loop
-sub-held c = let u : c .before .before .before .before .before .before .advance .result .used ≤ c .before .before .before .before .before .before .before .before .before .before .before .before .before .before .before .read-more .result .bytes = used-most _ _ _ (c .before .before .before .before .before .before .advance .ensures .0 .0) in omega arith
+sub-held c = let u = played-most (c .before .before .before .before .before .before) in omega arith
 
 same-length-7 : tie.Need-same-length-7 Inv-loop μ-loop
 same-length-7 c = search needs
@@ -81,7 +88,7 @@ loop-less : tie.Need-loop-less Inv-loop μ-loop
 loop-less c = search needs
 
 loop-again : tie.Need-loop-again Inv-loop μ-loop
-loop-again c = let u : c .before .before .before .before .before .before .before .advance .result .used ≤ c .before .before .before .before .before .before .before .before .before .before .before .before .before .before .before .before .read-more .result .bytes = used-most _ _ _ (c .before .before .before .before .before .before .before .advance .ensures .0 .0) in (search needs, (search needs, (search needs, omega arith)))
+loop-again c = let u = played-most (c .before .before .before .before .before .before .before) in (search needs, (search needs, (search needs, omega arith)))
 
 same-length-9 : tie.Need-same-length-9 Inv-loop μ-loop
 same-length-9 c = search needs

@@ -40,10 +40,17 @@ traits-found p t x y z k o g l ex ey ez = rw (ex, ey, ez) refl
 
 returns : tie.Need-returns
 returns c =
-    let a = c .before .before .before .before .before .before .before .before .before .before .before .before .before .before .args in
-    let s = c .before .before .before .add .ensures in
-    let e = ap (λ (n : New). addTo n (now (a .room))) (traits-found (a .parent) (a .traits) _ _ _ (now (a .kind)) (now (a .owner)) (now (a .group)) (now (a .list)) (c .before .before .before .before .before .before .before .has .ensures) (c .before .before .before .before .before .before .has2 .ensures) (c .before .before .before .before .has3 .ensures)) in
-    (c .put-answer .ensures ∙ ap (λ (x : Answer). placesOf (valuesOf x)) (s .0 ∙ ap (λ (o : Outcome). o .answer) e), s .1 ∙ ap (λ (o : Outcome). o .bytes) e)
+    let k = c .before .before .before in
+    let mark = k .before .before .before in
+    let kind = mark .before in
+    let a = kind .before .before .before .before .before .before .before .args in
+    let s = k .add .ensures in
+    let e = ap (λ (n : New). addTo n (now (a .room)))
+    (traits-found (a .parent) (a .traits) _ _ _ (now (a .kind)) (now (a .owner)) (now (a .group)) (now (a .list))
+    (kind .has .ensures) (mark .has2 .ensures) (k .before .has3 .ensures)) in (
+      c .put-answer .ensures ∙ ap (λ (x : Answer). placesOf (valuesOf x)) (s .0 ∙ ap (λ (o : Outcome). o .answer) e),
+      s .1 ∙ ap (λ (o : Outcome). o .bytes) e,
+    )
 
 pub pt-add-spec : {M : Type 1} → statement M
 pt-add-spec =

@@ -2,6 +2,8 @@
 use borrow.Author.Needs.{needs}
 use mathlib.Core.Path.{_≡_, sym, ap, ap₂, _∙_}
 use denote.Ref.{now}
+use mathlib.Core.List.{List}
+use Prim.Native.Nat.{ℕ}
 use lib.ListN.{length}
 use Rattle.inherit.specs.declared.Settings.{Settings}
 use Rattle.inherit.specs.declared.Mapping.{Mapping}
@@ -11,16 +13,41 @@ use Rattle.capi.specs.Places.{placesOf, settingsOf, mappingOf}
 use Rattle.capi.proofs.pt_compute.Statement.{statement}
 use Rattle.capi.proofs.pt_compute.Tie as tie
 
--- the call's answer and its buffer, by the arguments as they were passed
-answer-here : (c : tie.After-compute) → c .compute .result ≡ answerFor (c .before .before .before .before .before .before .before .before .before .before .before .args .rule) (settingsOf (c .before .before .before .before .before .before .before .before .before .before .before .args .settings)) (mappingOf (now (c .before .before .before .before .before .before .before .before .before .before .before .args .mapping))) (now (c .before .before .before .before .before .before .before .before .before .before .before .args .parent)) (now (c .before .before .before .before .before .before .before .before .before .before .before .args .creator)) (now (c .before .before .before .before .before .before .before .before .before .before .before .args .default)) (now (c .before .before .before .before .before .before .before .before .before .before .before .args .types)) (now (c .before .before .before .before .before .before .before .before .before .before .before .args .owner)) (now (c .before .before .before .before .before .before .before .before .before .before .before .args .group)) (length (now (c .before .before .before .before .before .before .before .before .before .before .before .args .out)))
+abbrev start : tie.After-compute → tie.Start
+start c = c .before .before .before .before .before .before .before .before .before .before .before
+
+-- the definition's answer and buffer for the arguments as they were passed: by what settings and mapping say, and with their bits and masks
+abbrev answer-by : tie.Start → Settings → Mapping → Computed
+answer-by t s m =
+    let a = t .args in
+    answerFor (a .rule) s m (now (a .parent)) (now (a .creator)) (now (a .default)) (now (a .types)) (now (a .owner)) (now (a .group)) (length (now (a .out)))
+
+abbrev out-by : tie.Start → Settings → Mapping → List ℕ
+out-by t s m =
+    let a = t .args in
+    outFor (a .rule) s m (now (a .parent)) (now (a .creator)) (now (a .default)) (now (a .types)) (now (a .owner)) (now (a .group)) (now (a .out))
+
+abbrev answer-asked : tie.Start → Computed
+answer-asked t = answer-by t (settingsOf (t .args .settings)) (mappingOf (now (t .args .mapping)))
+
+abbrev out-asked : tie.Start → List ℕ
+out-asked t = out-by t (settingsOf (t .args .settings)) (mappingOf (now (t .args .mapping)))
+
+-- the call's answer and its buffer are those
+answer-here : (c : tie.After-compute) → c .compute .result ≡ answer-asked (start c)
 answer-here c =
     c .compute .ensures .0
-    ∙ ap₂ (λ (s : Settings) (m : Mapping). answerFor (c .before .before .before .before .before .before .before .before .before .before .before .args .rule) s m (now (c .before .before .before .before .before .before .before .before .before .before .before .args .parent)) (now (c .before .before .before .before .before .before .before .before .before .before .before .args .creator)) (now (c .before .before .before .before .before .before .before .before .before .before .before .args .default)) (now (c .before .before .before .before .before .before .before .before .before .before .before .args .types)) (now (c .before .before .before .before .before .before .before .before .before .before .before .args .owner)) (now (c .before .before .before .before .before .before .before .before .before .before .before .args .group)) (length (now (c .before .before .before .before .before .before .before .before .before .before .before .args .out)))) (c .before .before .settings-of .ensures) (c .before .before .before .mapping-of .ensures)
+    ∙ ap₂ (answer-by (start c)) (c .before .before .settings-of .ensures) (c .before .before .before .mapping-of .ensures)
 
-out-here : (c : tie.After-compute) → c .compute .last .1 .1 .1 .1 .1 .1 .1 .1 .1 .0 ≡ outFor (c .before .before .before .before .before .before .before .before .before .before .before .args .rule) (settingsOf (c .before .before .before .before .before .before .before .before .before .before .before .args .settings)) (mappingOf (now (c .before .before .before .before .before .before .before .before .before .before .before .args .mapping))) (now (c .before .before .before .before .before .before .before .before .before .before .before .args .parent)) (now (c .before .before .before .before .before .before .before .before .before .before .before .args .creator)) (now (c .before .before .before .before .before .before .before .before .before .before .before .args .default)) (now (c .before .before .before .before .before .before .before .before .before .before .before .args .types)) (now (c .before .before .before .before .before .before .before .before .before .before .before .args .owner)) (now (c .before .before .before .before .before .before .before .before .before .before .before .args .group)) (now (c .before .before .before .before .before .before .before .before .before .before .before .args .out))
+out-here : (c : tie.After-compute) → c .compute .last .1 .1 .1 .1 .1 .1 .1 .1 .1 .0 ≡ out-asked (start c)
 out-here c =
     c .compute .ensures .1
-    ∙ ap₂ (λ (s : Settings) (m : Mapping). outFor (c .before .before .before .before .before .before .before .before .before .before .before .args .rule) s m (now (c .before .before .before .before .before .before .before .before .before .before .before .args .parent)) (now (c .before .before .before .before .before .before .before .before .before .before .before .args .creator)) (now (c .before .before .before .before .before .before .before .before .before .before .before .args .default)) (now (c .before .before .before .before .before .before .before .before .before .before .before .args .types)) (now (c .before .before .before .before .before .before .before .before .before .before .before .args .owner)) (now (c .before .before .before .before .before .before .before .before .before .before .before .args .group)) (now (c .before .before .before .before .before .before .before .before .before .before .before .args .out))) (c .before .before .settings-of .ensures) (c .before .before .before .mapping-of .ensures)
+    ∙ ap₂ (out-by (start c)) (c .before .before .settings-of .ensures) (c .before .before .before .mapping-of .ensures)
+
+-- so a case of the match that puts down what was found puts down the definition's answer
+ends-here : (c : tie.After-compute) {x : Computed} {w : List ℕ} → c .compute .result ≡ x → w ≡ placesOf (valuesOf x)
+    → (w ≡ placesOf (valuesOf (answer-asked (start c)))) × (c .compute .last .1 .1 .1 .1 .1 .1 .1 .1 .1 .0 ≡ out-asked (start c))
+ends-here c e p = (p ∙ ap (λ (x : Computed). placesOf (valuesOf x)) (sym e ∙ answer-here c), out-here c)
 
 mapping-of-requires : tie.Need-mapping-of-requires
 mapping-of-requires c κs = search needs
@@ -71,19 +98,19 @@ same-length : tie.Need-same-length
 same-length c = search needs
 
 returns : tie.Need-returns
-returns c = (c .put-values .ensures ∙ ap (λ (x : Computed). placesOf (valuesOf x)) (sym (c .before .before .before .length .given .1) ∙ answer-here (c .before .before .before .before .before .before .before)), out-here (c .before .before .before .before .before .before .before))
+returns c = ends-here (c .before .before .before .before .before .before .before) (c .before .before .before .length .given .1) (c .put-values .ensures)
 
 same-length-2 : tie.Need-same-length-2
 same-length-2 c = search needs
 
 returns-2 : tie.Need-returns-2
-returns-2 c = (c .put-values2 .ensures ∙ ap (λ (x : Computed). placesOf (valuesOf x)) (sym (c .before .before .enum-told .given .1) ∙ answer-here (c .before .before .before .before .before .before)), out-here (c .before .before .before .before .before .before))
+returns-2 c = ends-here (c .before .before .before .before .before .before) (c .before .before .enum-told .given .1) (c .put-values2 .ensures)
 
 same-length-3 : tie.Need-same-length-3
 same-length-3 c = search needs
 
 returns-3 : tie.Need-returns-3
-returns-3 c = (c .put-values3 .ensures ∙ ap (λ (x : Computed). placesOf (valuesOf x)) (sym (c .before .before .before .number .given .1) ∙ answer-here (c .before .before .before .before .before .before .before)), out-here (c .before .before .before .before .before .before .before))
+returns-3 c = ends-here (c .before .before .before .before .before .before .before) (c .before .before .before .number .given .1) (c .put-values3 .ensures)
 
 pub pt-compute-spec : {M : Type 1} → statement M
 pt-compute-spec =

@@ -26,10 +26,15 @@ same-length c = search needs
 
 returns : tie.Need-returns
 returns c =
-    let a = c .before .before .before .before .before .before .before .before .before .args in
-    let s = c .before .before .before .start .ensures in
-    let e = ap (λ (m : Mapping). startTo (a .objects) (a .steps) (a .rule) m (lent (yesOf (a .given)) (now (a .default))) (now (a .room))) (c .before .before .before .before .before .before .mapping-of .ensures) in
-    (c .put-answer .ensures ∙ ap (λ (x : Answer). placesOf (valuesOf x)) (s .0 ∙ ap (λ (o : Outcome). o .answer) e), s .1 ∙ ap (λ (o : Outcome). o .bytes) e)
+    let k = c .before .before .before in
+    let m = k .before .before .before in
+    let a = m .before .before .before .args in
+    let s = k .start .ensures in
+    let e = ap (λ (n : Mapping). startTo (a .objects) (a .steps) (a .rule) n (lent (yesOf (a .given)) (now (a .default))) (now (a .room)))
+    (m .mapping-of .ensures) in (
+      c .put-answer .ensures ∙ ap (λ (x : Answer). placesOf (valuesOf x)) (s .0 ∙ ap (λ (o : Outcome). o .answer) e),
+      s .1 ∙ ap (λ (o : Outcome). o .bytes) e,
+    )
 
 pub pt-start-spec : {M : Type 1} → statement M
 pt-start-spec =

@@ -33,7 +33,10 @@ has-requires-7 : tie.Need-has-requires-7
 has-requires-7 c κs = search needs
 
 returns : tie.Need-returns
-returns c = bits (c .before .before .before .before .before .before .has .ensures) (c .before .before .before .before .before .has2 .ensures) (c .before .before .before .before .has3 .ensures) (c .before .before .before .has4 .ensures) (c .before .before .has5 .ensures) (c .before .has6 .ensures) (c .has7 .ensures)
+returns c =
+    let four = c .before .before .before in
+    bits (four .before .before .before .has .ensures) (four .before .before .has2 .ensures) (four .before .has3 .ensures) (four .has4 .ensures)
+    (c .before .before .has5 .ensures) (c .before .has6 .ensures) (c .has7 .ensures)
 
 pub settings-of-spec : {M : Type 1} → statement M
 settings-of-spec =
