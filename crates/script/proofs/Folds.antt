@@ -78,7 +78,8 @@ by-records P cut bad whole t r = within (suc (length t)) t r (omega arith)
     within zero t r h = absurd (omega arith)
     within (suc k) t r h =
         by-step t (λ e l. cut t r e) (λ e l. bad t r e)
-        (λ e l. let s = shorter t (sizeOf t) (numberOf t) e in whole t r (sizeOf t) (numberOf t) e (within k (drop (sizeOf t) t) (carried (sizeOf t) t r) (omega arith)))
+        (λ e l. let s = shorter t (sizeOf t) (numberOf t) e in
+        whole t r (sizeOf t) (numberOf t) e (within k (drop (sizeOf t) t) (carried (sizeOf t) t r) (omega arith)))
 
 pub run-used : (t r : List ℕ) → runOf t r .used ≤ length t
 unfolding past
@@ -128,7 +129,8 @@ goes-past n t u f =
     (past-past n (f .used) (runOf (drop (f .used) (drop n t) ++ u) (f .room))
     ∙ ap (λ (a : List ℕ). past (n + f .used) (runOf (a ++ u) (f .room))) (drop-drop (f .used) n t))
 
-pub run-append : (t u r : List ℕ) → runOf (t ++ u) r ≡ cond (runOf t r .bad) (runOf t r) (past (runOf t r .used) (runOf (drop (runOf t r .used) t ++ u) (runOf t r .room)))
+pub run-append : (t u r : List ℕ)
+    → runOf (t ++ u) r ≡ cond (runOf t r .bad) (runOf t r) (past (runOf t r .used) (runOf (drop (runOf t r .used) t ++ u) (runOf t r .room)))
 unfolding goes-on
 run-append t u r =
     by-records (λ t r. runOf (t ++ u) r ≡ goes-on t u (runOf t r))
@@ -174,6 +176,7 @@ pieces-from t (p ∷ ps) r =
     ∙ pieces-from (t ++ p) ps r
     ∙ ap (λ (a : List ℕ). ahead 0 a (runOf a r)) (append-assoc t p (joined ps))
 
-pub pieces-same : (ps : List (List ℕ)) (r : List ℕ) → inPieces (record { at = 0; left = []; bad = false; room = r }) ps ≡ ahead 0 (joined ps) (runOf (joined ps) r)
+pub pieces-same : (ps : List (List ℕ)) (r : List ℕ)
+    → inPieces (record { at = 0; left = []; bad = false; room = r }) ps ≡ ahead 0 (joined ps) (runOf (joined ps) r)
 unfolding ahead
 pieces-same ps r = rw (run-none r) at (pieces-from [] ps r)

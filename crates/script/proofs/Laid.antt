@@ -153,7 +153,8 @@ unfolding laidAt putOn
 laid-past at s d h = rw (take-all at d h, drop-of-length-le d h, drop-nil) (append-nil d)
 
 -- how the code lays them: on the front of the tail from `at` on
-pub laid-tail : (at : ℕ) (s xs ys : List ℕ) → ys ≡ putOn s (take (length xs - at) (drop at xs)) → take at xs ++ (ys ++ drop (length xs - at) (drop at xs)) ≡ laidAt at s xs
+pub laid-tail : (at : ℕ) (s xs ys : List ℕ) → ys ≡ putOn s (take (length xs - at) (drop at xs))
+    → take at xs ++ (ys ++ drop (length xs - at) (drop at xs)) ≡ laidAt at s xs
 unfolding laidAt
 laid-tail at s xs ys e =
     let m : length (drop at xs) ≤ length xs - at = rw length-drop (le-refl _) in

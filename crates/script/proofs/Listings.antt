@@ -93,13 +93,13 @@ pub lined-none : (os : List Optional) (from : ℕ) (d : List ℕ) → Lined os f
 unfolding lines
 lined-none os from d = record { laid = lays from [] d from d (omega arith) (sym (laid-nothing from d)); most = omega arith }
 
-pub lined-more : {os : List Optional} {from i at end : ℕ} {d out done : List ℕ} {o : Optional} → Lined os from d i at out → getD os i absent ≡ o → end ≤ at + 63
-    → Lays at (line i o) out end done → Lined os from d (i + 1) end done
+pub lined-more : {os : List Optional} {from i at end : ℕ} {d out done : List ℕ} {o : Optional}
+    → Lined os from d i at out → getD os i absent ≡ o → end ≤ at + 63 → Lays at (line i o) out end done → Lined os from d (i + 1) end done
 lined-more {os} {i = i} g e h l = record { laid = rw (lines-more i os, e) (lays-then (g .laid) l); most = omega (arith, g .most) }
 
 -- the heading, and all lines
-pub lined-all : {os : List Optional} {from n i at : ℕ} {d out done : List ℕ} → n ≡ length os → i ≡ n → Lays 0 (objects-text ++ (decimal n ++ newline)) d from out
-    → Lined os from out i at done → (at ≡ length (listing os)) × (done ≡ laidAt 0 (listing os) d)
+pub lined-all : {os : List Optional} {from n i at : ℕ} {d out done : List ℕ} → n ≡ length os → i ≡ n
+    → Lays 0 (objects-text ++ (decimal n ++ newline)) d from out → Lined os from out i at done → (at ≡ length (listing os)) × (done ≡ laidAt 0 (listing os) d)
 unfolding listing heading
 lined-all e f h g = let l = lays-then h (rw f at (g .laid)) in rw (← e) (l .ends ∙ zero-add _, l .text)
 
@@ -119,7 +119,8 @@ module _ (n : ℕ) (out : List ℕ) {r : ℕ} (e : r ≡ length (badLine n)) whe
   unfolding textOf
   bad-no h f = written-no (BadAt n) out (omega arith) f
 
-  pub bad-all : r ≤ length out → {done : List ℕ} → done ≡ laidAt 0 (badLine n) out → (Done r false 0 ≡ written (BadAt n) out .answer) × (done ≡ written (BadAt n) out .bytes)
+  pub bad-all : r ≤ length out → {done : List ℕ} → done ≡ laidAt 0 (badLine n) out
+      → (Done r false 0 ≡ written (BadAt n) out .answer) × (done ≡ written (BadAt n) out .bytes)
   unfolding textOf answerFor
   bad-all h f = let w = written-all (BadAt n) out (omega arith) in (ap (λ (k : ℕ). Done k false 0) e ∙ w .0, f ∙ w .1)
 
@@ -143,7 +144,8 @@ counts-done r {n} {k} {is} e = by (formed r) refl
     by true f = let g = rw f at e in (f, (cc))
     by false f = let g = rw f at e in let z : _≡_ {A = ℕ} 0 1 = cc in absurd (omega arith)
 
-pub listing-done : (r out : List ℕ) → formed r ≡ true → {a : Answer} {done : List ℕ} → (a ≡ written (Listed (shown r .lists)) out .answer) × (done ≡ written (Listed (shown r .lists)) out .bytes)
+pub listing-done : (r out : List ℕ) → formed r ≡ true → {a : Answer} {done : List ℕ}
+    → (a ≡ written (Listed (shown r .lists)) out .answer) × (done ≡ written (Listed (shown r .lists)) out .bytes)
     → (a ≡ listingTo r out .answer) × (done ≡ listingTo r out .bytes)
 unfolding listingTo need
 listing-done r out f w = rw f w

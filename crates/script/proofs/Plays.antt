@@ -160,7 +160,8 @@ unfolding endOfPieces ahead endOf
 ends-by n used t r b e h =
     split (length t) used
     (λ l. rw (eq-eqb (length (drop used t)) 0 (rw length-drop (omega arith)), eq-eqb (5 + used) n (omega arith)) refl)
-    (λ l. rw (ne-eqb (length (drop used t)) 0 (rw length-drop (λ q. omega arith)), ne-eqb (5 + used) n (λ q. omega arith)) (ap (λ (k : ℕ). BadAt (5 + k)) (zero-add used)))
+    (λ l. rw (ne-eqb (length (drop used t)) 0 (rw length-drop (λ q. omega arith)), ne-eqb (5 + used) n (λ q. omega arith))
+    (ap (λ (k : ℕ). BadAt (5 + k)) (zero-add used)))
 
 -- however its records are cut into pieces, a script ends as it does whole
 pub pieces-end : (s : List ℕ) (ps : List (List ℕ)) → headOk s ≡ true → joined ps ≡ drop 5 s

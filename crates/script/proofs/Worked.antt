@@ -74,6 +74,40 @@ pub texts-worked :
 unfolding le digits decimal columnsBy columns line lines heading listing badLine
 texts-worked = (refl, refl)
 
+-- ---- what the computations below open, layer by layer
+
+bytes-open : Unit {0}
+unfolding le spell sameBytes guidAt part putAt sidLen isSid placeholderOf identityOf flatten
+bytes-open = tt
+
+entries-open : Unit {0}
+unfolding plainOf objectOf objectKind kindOk flagsOk headOf wordAfter entryBytes tailOk need entryOf
+entries-open = tt
+
+lists-open : Unit {0}
+unfolding revOk headerOk cut entriesOf headBytes render onGood walkOf finish checkOf entriesIf
+lists-open = tt
+
+copies-open : Unit {0}
+unfolding typesOk typesOf anyHeritable among typeApplies pass kept takesFirst firstPart takesSecond secondPart fromParent own fromCreator
+copies-open = tt
+
+compute-open : Unit {0}
+unfolding inPlace mapped resolved lastOf lastStep inheritedBit withCreator fromDefault branch resultOf anyObject withRoom needed onReading readable ruleOk computeOf bytesFor
+compute-open = tt
+
+tree-open : Unit {0}
+unfolding bytesIn idIn idFor slotFor blockFor settingsFor placed computed short editAt editBytes fromRoot gather work
+tree-open = tt
+
+machine-open : Unit {0}
+unfolding bind rest replay afresh noted unnoted next remains reads fine change rules
+machine-open = tt
+
+script-open : Unit {0}
+unfolding nameEnd listEnd parentOf sizeOf formOk asked stepOf onCall callsBy callsOf
+script-open = tt
+
 -- ---- document 01's own script
 
 -- owner and group S-1-5-18
@@ -97,8 +131,9 @@ unfolding le flatten nameEnd listEnd sizeOf formOk stepOf past onStep runBy runO
 whole = refl
 
 -- what is worked out afresh from its two changes
-afresh-worked : afresh (rules 16 (settingsFor 2 mapping absent)) 16 (remains (rules 16 (settingsFor 2 mapping absent)) 16 (callsOf (drop 5 document)) .done) ≡ some lists
-unfolding le spell sameBytes guidAt part putAt sidLen isSid placeholderOf identityOf plainOf objectOf objectKind kindOk flagsOk headOf wordAfter entryBytes tailOk need entryOf revOk headerOk cut entriesOf headBytes render onGood walkOf finish checkOf entriesIf typesOk typesOf anyHeritable among typeApplies pass kept takesFirst firstPart takesSecond secondPart fromParent own fromCreator inPlace mapped resolved lastOf lastStep inheritedBit withCreator fromDefault branch resultOf anyObject withRoom needed onReading readable ruleOk computeOf bytesFor bytesIn idIn idFor slotFor blockFor settingsFor placed computed short editAt editBytes bind rest replay afresh noted unnoted next remains reads fine change fromRoot gather work rules nameEnd listEnd parentOf sizeOf formOk asked stepOf onCall callsBy callsOf flatten
+afresh-worked :
+    afresh (rules 16 (settingsFor 2 mapping absent)) 16 (remains (rules 16 (settingsFor 2 mapping absent)) 16 (callsOf (drop 5 document)) .done) ≡ some lists
+unfolding bytes-open entries-open lists-open copies-open compute-open tree-open machine-open script-open
 afresh-worked = refl
 
 some-same : (a b : List Optional) → _≡_ {A = Option (List Optional)} (some a) (some b) → a ≡ b

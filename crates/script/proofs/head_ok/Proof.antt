@@ -20,28 +20,50 @@ byte-in-requires c κs = search needs
 
 returns-2 : tie.Need-returns-2
 unfolding headOk
-returns-2 c = let s = now (c .before .before .before .before .args .script) in simp (le-leb 5 (length s) (omega arith), ne-eqb (getD s 0 0) 65 (λ e. omega arith))
+returns-2 c =
+    let s = now (c .before .before .before .before .args .script) in
+    simp (le-leb 5 (length s) (omega arith), ne-eqb (getD s 0 0) 65 (λ e. omega arith))
 
 byte-in-requires-2 : tie.Need-byte-in-requires-2
 byte-in-requires-2 c κs = search needs
 
 returns-3 : tie.Need-returns-3
 unfolding headOk
-returns-3 c = let s = now (c .before .before .before .before .before .before .args .script) in simp (le-leb 5 (length s) (omega arith), eq-eqb (getD s 0 0) 65 (omega arith), ne-eqb (getD s 1 0) 88 (λ e. omega arith))
+returns-3 c =
+    let s = now (c .before .before .before .before .before .before .args .script) in
+    simp (
+      le-leb 5 (length s) (omega arith),
+      eq-eqb (getD s 0 0) 65 (omega arith),
+      ne-eqb (getD s 1 0) 88 (λ e. omega arith),
+    )
 
 byte-in-requires-3 : tie.Need-byte-in-requires-3
 byte-in-requires-3 c κs = search needs
 
 returns-4 : tie.Need-returns-4
 unfolding headOk
-returns-4 c = let s = now (c .before .before .before .before .before .before .before .before .args .script) in simp (le-leb 5 (length s) (omega arith), eq-eqb (getD s 0 0) 65 (omega arith), eq-eqb (getD s 1 0) 88 (omega arith), ne-eqb (getD s 2 0) 83 (λ e. omega arith))
+returns-4 c =
+    let s = now (c .before .before .before .before .before .before .before .before .args .script) in
+    simp (
+      le-leb 5 (length s) (omega arith),
+      eq-eqb (getD s 0 0) 65 (omega arith),
+      eq-eqb (getD s 1 0) 88 (omega arith),
+      ne-eqb (getD s 2 0) 83 (λ e. omega arith),
+    )
 
 half-in-requires : tie.Need-half-in-requires
 half-in-requires c κs = search needs
 
 returns-5 : tie.Need-returns-5
 unfolding headOk
-returns-5 c = let s = now (c .before .before .before .before .before .before .before .before .before .args .script) in simp (le-leb 5 (length s) (omega arith), eq-eqb (getD s 0 0) 65 (omega arith), eq-eqb (getD s 1 0) 88 (omega arith), eq-eqb (getD s 2 0) 83 (omega arith)) (ap (λ (n : ℕ). eqb n 1) (c .half-in .ensures))
+returns-5 c =
+    let s = now (c .before .before .before .before .before .before .before .before .before .args .script) in
+    simp (
+      le-leb 5 (length s) (omega arith),
+      eq-eqb (getD s 0 0) 65 (omega arith),
+      eq-eqb (getD s 1 0) 88 (omega arith),
+      eq-eqb (getD s 2 0) 83 (omega arith),
+    ) (ap (λ (n : ℕ). eqb n 1) (c .half-in .ensures))
 
 pub head-ok-spec : {M : Type 1} → statement M
 head-ok-spec =

@@ -72,18 +72,26 @@ same-length c = search needs
 
 returns : tie.Need-returns
 returns c =
-    let t = now (c .before .before .before .before .before .before .before .before .before .before .before .before .before .before .before .before .before .before .before .args .t) in
-    let r = now (c .before .before .before .before .before .before .before .before .before .before .before .before .before .before .before .before .before .before .before .args .room) in
-    let g : c .before .before .before .before .before .before .before .before .before .before .before .before .before .before .before .before .name-end .result ≡ nameEnd 20 t = c .before .before .before .before .before .before .before .before .before .before .before .before .before .before .before .before .name-end .ensures .0 in
-    let l : c .before .before .before .before .before .before .before .before .before .before .before .before .before .before .before .name-end2 .result ≡ namesEnd 20 t = c .before .before .before .before .before .before .before .before .before .before .before .before .before .before .before .name-end2 .ensures .0 ∙ ap (λ (x : ℕ). nameEnd x t) g in
+    let list = c .before .before .before in
+    let group = list .before in
+    let owner = group .before .before in
+    let type = owner .before .before in
+    let traits = type .before in
+    let parent = traits .before .before in
+    let sizes = parent .before .before .before in
+    let a = sizes .before .before .before .before .before .args in
+    let t = now (a .t) in
+    let r = now (a .room) in
+    let g : sizes .before .before .name-end .result ≡ nameEnd 20 t = sizes .before .before .name-end .ensures .0 in
+    let l : sizes .before .name-end2 .result ≡ namesEnd 20 t = sizes .before .name-end2 .ensures .0 ∙ ap (λ (x : ℕ). nameEnd x t) g in
     let new = new-by t _ _ _ _ _ _ _
-    (c .before .before .before .before .before .before .before .before .before .before .before .parent-of .ensures ∙ ap parentOf (c .before .before .before .before .before .before .before .before .before .before .before .before .byte-in .ensures))
-    (c .before .before .before .before .before .before .before .before .before .before .flag .ensures)
-    (c .before .before .before .before .before .before .before .before .before .flag2 .ensures)
-    (c .before .before .before .before .before .before .before .before .guid-at .ensures)
-    (name-by t _ 20 _ (c .before .before .before .before .before .before .before .byte-in2 .ensures) (c .before .before .before .before .before .before .part-of .ensures))
-    (name-by t _ _ _ (c .before .before .before .before .before .byte-in3 .ensures) (c .before .before .before .before .part-of2 .ensures) ∙ ap (λ (x : ℕ). nameIn x t) g)
-    (list-by t _ _ _ (c .before .before .before .before .before .before .before .before .before .before .before .before .before .before .half-in .ensures) (c .before .before .before .part-of3 .ensures) ∙ ap (λ (x : ℕ). listIn x t) l) in (
+    (parent .parent-of .ensures ∙ ap parentOf (parent .before .byte-in .ensures))
+    (traits .before .flag .ensures)
+    (traits .flag2 .ensures)
+    (type .guid-at .ensures)
+    (name-by t _ 20 _ (owner .before .byte-in2 .ensures) (owner .part-of .ensures))
+    (name-by t _ _ _ (group .before .byte-in3 .ensures) (group .part-of2 .ensures) ∙ ap (λ (x : ℕ). nameIn x t) g)
+    (list-by t _ _ _ (sizes .half-in .ensures) (list .part-of3 .ensures) ∙ ap (λ (x : ℕ). listIn x t) l) in (
       c .before .before .add .ensures .0 ∙ ap (λ (n : New). addTo n r .answer) new,
       c .before .before .add .ensures .1 ∙ ap (λ (n : New). addTo n r .bytes) new,
     )

@@ -25,8 +25,9 @@ same-length c = search needs
 returns : tie.Need-returns
 unfolding callTo
 returns c =
-    let r = now (c .before .before .before .before .before .before .before .before .args .room) in
-    let e = asked-1 (now (c .before .before .before .before .before .before .before .before .args .t)) (omega arith) in (
+    let a = c .before .before .before .before .before .before .before .before .args in
+    let r = now (a .room) in
+    let e = asked-1 (now (a .t)) (omega arith) in (
       c .before .before .add .ensures .0 ∙ ap (λ (q : Call Change). callTo q r .answer) (sym e),
       c .before .before .add .ensures .1 ∙ ap (λ (q : Call Change). callTo q r .bytes) (sym e),
     )
@@ -40,8 +41,9 @@ same-length-2 c = search needs
 returns-2 : tie.Need-returns-2
 unfolding callTo
 returns-2 c =
-    let r = now (c .before .before .before .before .before .before .before .before .before .args .room) in
-    let e = asked-2 (now (c .before .before .before .before .before .before .before .before .before .args .t)) (omega arith) in (
+    let a = c .before .before .before .before .before .before .before .before .before .args in
+    let r = now (a .room) in
+    let e = asked-2 (now (a .t)) (omega arith) in (
       c .before .before .set-list .ensures .0 ∙ ap (λ (q : Call Change). callTo q r .answer) (sym e),
       c .before .before .set-list .ensures .1 ∙ ap (λ (q : Call Change). callTo q r .bytes) (sym e),
     )
@@ -64,13 +66,14 @@ same-length-3 c = search needs
 returns-3 : tie.Need-returns-3
 unfolding callTo
 returns-3 c =
-    let t = now (c .before .before .before .before .before .before .before .before .before .before .before .before .args .t) in
-    let r = now (c .before .before .before .before .before .before .before .before .before .before .before .before .args .room) in
-    let e = asked-3 t (omega arith) in
+    let a = c .before .before .before .before .before .before .before .before .before .before .before .before .args in
+    let r = now (a .room) in
+    let e = asked-3 (now (a .t)) (omega arith) in
+    let s = c .before .before .set-mark .ensures in
     let i = c .before .before .before .before .byte-in2 .ensures in
     let m = c .before .before .before .flag .ensures in (
-      c .before .before .set-mark .ensures .0 ∙ ap₂ (λ (n : ℕ) (o : Bool). alterTo n (mark o) r .answer) i m ∙ ap (λ (q : Call Change). callTo q r .answer) (sym e),
-      c .before .before .set-mark .ensures .1 ∙ ap₂ (λ (n : ℕ) (o : Bool). alterTo n (mark o) r .bytes) i m ∙ ap (λ (q : Call Change). callTo q r .bytes) (sym e),
+      s .0 ∙ ap₂ (λ (n : ℕ) (o : Bool). alterTo n (mark o) r .answer) i m ∙ ap (λ (q : Call Change). callTo q r .answer) (sym e),
+      s .1 ∙ ap₂ (λ (n : ℕ) (o : Bool). alterTo n (mark o) r .bytes) i m ∙ ap (λ (q : Call Change). callTo q r .bytes) (sym e),
     )
 
 set-owner-requires : tie.Need-set-owner-requires
@@ -82,8 +85,9 @@ same-length-4 c = search needs
 returns-4 : tie.Need-returns-4
 unfolding callTo
 returns-4 c =
-    let r = now (c .before .before .before .before .before .before .before .before .before .before .before .args .room) in
-    let e = asked-4 (now (c .before .before .before .before .before .before .before .before .before .before .before .args .t)) (omega arith) in (
+    let a = c .before .before .before .before .before .before .before .before .before .before .before .args in
+    let r = now (a .room) in
+    let e = asked-4 (now (a .t)) (omega arith) in (
       c .before .before .set-owner .ensures .0 ∙ ap (λ (q : Call Change). callTo q r .answer) (sym e),
       c .before .before .set-owner .ensures .1 ∙ ap (λ (q : Call Change). callTo q r .bytes) (sym e),
     )
@@ -97,8 +101,9 @@ same-length-5 c = search needs
 returns-5 : tie.Need-returns-5
 unfolding callTo
 returns-5 c =
-    let r = now (c .before .before .before .before .before .before .before .before .before .before .before .args .room) in
-    let e = asked-5 (now (c .before .before .before .before .before .before .before .before .before .before .before .args .t)) (λ h. omega arith) (λ h. omega arith) (λ h. omega arith) (λ h. omega arith) in (
+    let a = c .before .before .before .before .before .before .before .before .before .before .before .args in
+    let r = now (a .room) in
+    let e = asked-5 (now (a .t)) (λ h. omega arith) (λ h. omega arith) (λ h. omega arith) (λ h. omega arith) in (
       c .before .before .undo .ensures .0 ∙ ap (λ (q : Call Change). callTo q r .answer) (sym e),
       c .before .before .undo .ensures .1 ∙ ap (λ (q : Call Change). callTo q r .bytes) (sym e),
     )

@@ -46,11 +46,15 @@ same-length c = search needs
 
 returns : tie.Need-returns
 returns c =
-    let t = now (c .before .before .before .before .before .before .before .before .before .before .before .before .args .t) in
-    let r = now (c .before .before .before .before .before .before .before .before .before .before .before .before .args .room) in
-    let i = c .before .before .before .before .before .before .before .byte-in .ensures in
-    let o = name-by t _ 2 _ (c .before .before .before .before .before .before .byte-in2 .ensures) (c .before .before .before .before .before .part-of .ensures) in
-    let g = name-by t _ _ _ (c .before .before .before .before .byte-in3 .ensures) (c .before .before .before .part-of2 .ensures) ∙ ap (λ (x : ℕ). nameIn x t) (c .before .before .before .before .before .before .before .before .before .name-end .ensures .0) in (
+    let group = c .before .before .before in
+    let owner = group .before .before in
+    let object = owner .before .before in
+    let end = object .before .before in
+    let a = end .before .before .before .args in
+    let t = now (a .t) in
+    let i = object .byte-in .ensures in
+    let o = name-by t _ 2 _ (owner .before .byte-in2 .ensures) (owner .part-of .ensures) in
+    let g = name-by t _ _ _ (group .before .byte-in3 .ensures) (group .part-of2 .ensures) ∙ ap (λ (x : ℕ). nameIn x t) (end .name-end .ensures .0) in (
       c .before .before .set-owner .ensures .0 ∙ rw (i, o, g) refl,
       c .before .before .set-owner .ensures .1 ∙ rw (i, o, g) refl,
     )

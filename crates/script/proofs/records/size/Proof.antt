@@ -49,7 +49,9 @@ returns-4 c =
     c .name-end4 .ensures .0 ∙ ap (λ (x : ℕ). nameEnd x t) (c .before .name-end3 .ensures .0) ∙ sym (size-4 t (omega arith))
 
 returns-5 : tie.Need-returns-5
-returns-5 c = let t = now (c .before .before .before .before .before .before .args .t) in sym (size-5 t (λ e. omega arith) (λ e. omega arith) (λ e. omega arith) (λ e. omega arith))
+returns-5 c =
+    let t = now (c .before .before .before .before .before .before .args .t) in
+    sym (size-5 t (λ e. omega arith) (λ e. omega arith) (λ e. omega arith) (λ e. omega arith))
 
 pub size-spec : {M : Type 1} → statement M
 size-spec =

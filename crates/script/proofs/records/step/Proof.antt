@@ -22,7 +22,9 @@ form-ok-requires c κs = search needs
 
 returns-2 : tie.Need-returns-2
 unfolding stepOf
-returns-2 c = let t = now (c .before .before .before .before .before .args .t) in simp (le-leb (sizeOf t) (length t) (omega arith), sym (c .before .form-ok .ensures) ∙ not-true _ (c .if2 .taken))
+returns-2 c =
+    let t = now (c .before .before .before .before .before .args .t) in
+    simp (le-leb (sizeOf t) (length t) (omega arith), sym (c .before .form-ok .ensures) ∙ not-true _ (c .if2 .taken))
 
 byte-in-requires : tie.Need-byte-in-requires
 byte-in-requires c κs = search needs

@@ -20,13 +20,16 @@ feed-requires : tie.Need-feed-requires
 feed-requires c κs = search needs
 
 sub-pull : tie.Need-sub-pull
-sub-pull c = omega (arith, run-used (now (c .before .before .before .before .before .before .part-of .result)) (now (c .before .before .before .before .before .before .before .before .before .before .args .room)))
+sub-pull c =
+    let p = c .before .before .before .before .before .before in
+    omega (arith, run-used (now (p .part-of .result)) (now (p .before .before .before .before .args .room)))
 
 pull-requires : tie.Need-pull-requires
 pull-requires c κs =
-    let a = c .before .before .before .before .before .before .before .before .before .before .args in
-    let t = now (c .before .before .before .before .before .before .part-of .result) in
-    let e : t ≡ take (a .held) (now (a .buffer)) = c .before .before .before .before .before .before .part-of .ensures ∙ first-part (a .held) (now (a .buffer)) in
+    let p = c .before .before .before .before .before .before in
+    let a = p .before .before .before .before .args in
+    let t = now (p .part-of .result) in
+    let e : t ≡ take (a .held) (now (a .buffer)) = p .part-of .ensures ∙ first-part (a .held) (now (a .buffer)) in
     omega (arith, run-used t (now (a .room)), ap length e, length-take (a .held) (now (a .buffer)))
 
 same-length : tie.Need-same-length
@@ -37,11 +40,12 @@ same-length-2 c = search needs
 
 returns : tie.Need-returns
 returns c =
-    let a = c .before .before .before .before .before .before .before .before .before .before .before .before .before .args in
+    let p = c .before .before .before .before .before .before .before .before .before in
+    let a = p .before .before .before .before .args in
     let f = c .before .before .before .before .before .before .before .feed in
     let d = now (a .buffer) in
-    let t = now (c .before .before .before .before .before .before .before .before .before .part-of .result) in
-    let e : t ≡ take (a .held) d = c .before .before .before .before .before .before .before .before .before .part-of .ensures ∙ first-part (a .held) d in
+    let t = now (p .part-of .result) in
+    let e : t ≡ take (a .held) d = p .part-of .ensures ∙ first-part (a .held) d in
     let h : f .result .used ≤ length t = omega (arith, run-used t (now (a .room))) in (
       subst
           (λ (x : List ℕ).

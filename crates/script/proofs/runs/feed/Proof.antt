@@ -41,7 +41,8 @@ returns c =
     let a = c .before .before .before .before .before .before .before .before .before .before .before .args in
     let l = c .before .before .before .before .before .before .before .before .loop in
     let n = c .before .before .before .before .next in
-    parts-of (fed-stops (now (a .s)) (now (a .room)) (l .at) _ _ (l .inv .2) refl (n .result) (n .ensures .0) _ (n .ensures .1) _ (c .is-bad .ensures) (omega arith))
+    parts-of
+    (fed-stops (now (a .s)) (now (a .room)) (l .at) _ _ (l .inv .2) refl (n .result) (n .ensures .0) _ (n .ensures .1) _ (c .is-bad .ensures) (omega arith))
 
 add-at : tie.Need-add-at Inv-loop μ-loop
 add-at c =

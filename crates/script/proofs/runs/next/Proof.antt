@@ -25,7 +25,9 @@ same-length c = search needs
 
 returns : tie.Need-returns
 unfolding lengthIf roomIf
-returns c = rw (sym (c .before .before .before .before .before .before .before .step .ensures) ∙ c .before .before .before .before .before .length .given .1) (c .before .before .past .ensures)
+returns c =
+    let found = c .before .before .before .before .before in
+    rw (sym (found .before .before .step .ensures) ∙ found .length .given .1) (c .before .before .past .ensures)
 
 returns-2 : tie.Need-returns-2
 unfolding lengthIf roomIf

@@ -18,7 +18,8 @@ abbrev μ-loop : tie.MeasureT-loop
 loop-holds : tie.Need-loop-holds Inv-loop μ-loop
 loop-holds c =
     let a = c .args in
-    (c .pre, subst (λ (k : ℕ). Spelt (a .n) (a .n) k (now (a .text))) (c .pre) (spelt-none (a .n) (now (a .text)) (rw (c .pre) (decimal-20 (a .n) (omega arith)))))
+    let s = spelt-none (a .n) (now (a .text)) (rw (c .pre) (decimal-20 (a .n) (omega arith))) in
+    (c .pre, subst (λ (k : ℕ). Spelt (a .n) (a .n) k (now (a .text))) (c .pre) s)
 
 sub-i : tie.Need-sub-i Inv-loop μ-loop
 sub-i c = spelt-left _ _ _ _ (c .before .loop .inv .1)

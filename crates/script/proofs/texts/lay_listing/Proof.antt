@@ -16,6 +16,12 @@ Inv-loop room n out₀ a b at₀ i₀ out at i = (i ≤ n) × Lined (shown room 
 abbrev μ-loop : tie.MeasureT-loop
 μ-loop room n out₀ a b at₀ i₀ out at i = n - i
 
+-- from the loop back past the texts of the heading
+abbrev start : tie.At-loop Inv-loop μ-loop → tie.Start Inv-loop μ-loop
+start l =
+    let number = l .before .before .before .before .before .before .before .before in
+    number .before .before .before .before .before .before .before .before .before
+
 slice-aggregate-put-bytes : tie.Need-slice-aggregate-put-bytes Inv-loop μ-loop
 slice-aggregate-put-bytes c = search needs
 
@@ -37,7 +43,7 @@ loop-holds c = (omega arith, lined-none _ _ _)
 put-line-requires : tie.Need-put-line-requires Inv-loop μ-loop
 put-line-requires c κs =
     let l = c .before .before in
-    let s = l .before .before .before .before .before .before .before .before .before .before .before .before .before .before .before .before .before in
+    let s = start l in
     (omega (arith, l .loop .inv .1 .most, objects-most _ (s .pre .0)), (s .pre .0, omega arith))
 
 add-i : tie.Need-add-i Inv-loop μ-loop
@@ -49,7 +55,7 @@ loop-less c = search needs
 loop-again : tie.Need-loop-again Inv-loop μ-loop
 loop-again c =
     let l = c .before .before .before .before .before in
-    let s = l .before .before .before .before .before .before .before .before .before .before .before .before .before .before .before .before .before in
+    let s = start l in
     let p = c .before .before .put-line .ensures in
     (omega arith, lined-more (l .loop .inv .1) (lists-at (now (s .args .room)) (l .loop .i) (omega arith)) (p .1 .0) (lays _ _ _ _ _ (p .0) (p .1 .1)))
 

@@ -22,7 +22,8 @@ same-length c = search needs
 
 returns : tie.Need-returns
 returns c =
-    let f = counts-done _ (sym (c .before .before .before .before .before .before .before .counts .ensures) ∙ c .before .before .before .before .before .length .given .1) in
+    let found = c .before .before .before .before .before in
+    let f = counts-done _ (sym (found .before .before .counts .ensures) ∙ found .length .given .1) in
     listing-done _ _ (f .0) (c .before .before .give-listing .ensures)
 
 returns-2 : tie.Need-returns-2

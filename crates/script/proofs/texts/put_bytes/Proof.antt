@@ -26,10 +26,14 @@ same-length : tie.Need-same-length
 same-length c = search needs
 
 returns : tie.Need-returns
-returns c = let a = c .before .before .before .before .before .before .before .args in (refl, laid-tail (a .at) (now (a .s)) (now (a .out)) _ (c .before .before .put .ensures))
+returns c =
+    let a = c .before .before .before .before .before .before .before .args in
+    (refl, laid-tail (a .at) (now (a .s)) (now (a .out)) _ (c .before .before .put .ensures))
 
 returns-2 : tie.Need-returns-2
-returns-2 c = (refl, sym (laid-past (c .before .before .before .args .at) (now (c .before .before .before .args .s)) (now (c .before .before .before .args .out)) (omega arith)))
+returns-2 c =
+    let a = c .before .before .before .args in
+    (refl, sym (laid-past (a .at) (now (a .s)) (now (a .out)) (omega arith)))
 
 pub put-bytes-spec : {M : Type 1} → statement M
 put-bytes-spec =

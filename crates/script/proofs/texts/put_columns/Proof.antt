@@ -53,7 +53,8 @@ returns-2 c =
     let q = u .put-bytes2 .ensures in
     let r = s .put-decimal2 .ensures in
     let e = c .before .before .put-bytes3 .ensures in
-    let l = lays-then (lays-then (lays _ _ _ _ _ (p .0) (p .1 .1)) (lays-then (lays _ _ _ _ _ (q .0) (q .1)) (lays _ _ _ _ _ (r .0) (r .1 .1)))) (lays _ _ _ _ _ (e .0) (e .1)) in
+    let l = lays-then (lays-then (lays _ _ _ _ _ (p .0) (p .1 .1)) (lays-then (lays _ _ _ _ _ (q .0) (q .1)) (lays _ _ _ _ _ (r .0) (r .1 .1))))
+    (lays _ _ _ _ _ (e .0) (e .1)) in
     rw (columns-some (a .long) (a .entries) (not-false _ (v .before .before .if1 .left))) (l .ends, (omega arith, l .text))
 
 pub put-columns-spec : {M : Type 1} → statement M

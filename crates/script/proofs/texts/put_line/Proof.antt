@@ -52,8 +52,10 @@ returns c =
     let q = s .put-bytes .ensures in
     let e = c .before .before .put-columns .ensures in
     let o = held (slot (a .args .i) (now (a .args .room))) in
-    let y = sym (list-told (a .args .i) (now (a .args .room)) _ (a .pre .1 .0) (a .pre .1 .1) refl) ∙ sym (t .list-of .ensures .0) ∙ c .before .before .before .before .before .length .given .1 in
-    let l = line-told (a .args .i) o y (lays-then (lays _ _ _ _ _ (p .0) (p .1 .1)) (lays-then (lays _ _ _ _ _ (q .0) (q .1)) (lays _ _ _ _ _ (e .0) (e .1 .1)))) in
+    let told = sym (list-told (a .args .i) (now (a .args .room)) _ (a .pre .1 .0) (a .pre .1 .1) refl) in
+    let y = told ∙ sym (t .list-of .ensures .0) ∙ c .before .before .before .before .before .length .given .1 in
+    let l = line-told (a .args .i) o y
+    (lays-then (lays _ _ _ _ _ (p .0) (p .1 .1)) (lays-then (lays _ _ _ _ _ (q .0) (q .1)) (lays _ _ _ _ _ (e .0) (e .1 .1)))) in
     (l .ends, (omega arith, l .text))
 
 same-length-2 : tie.Need-same-length-2
@@ -64,7 +66,8 @@ returns-2 c =
     let t = c .before .before .before .before in
     let s = t .before .before .before .before in
     let a = s .before .before .before .before .before .before .before .before .before in
-    absurd (told-done (held (slot (a .args .i) (now (a .args .room)))) (sym (list-told (a .args .i) (now (a .args .room)) _ (a .pre .1 .0) (a .pre .1 .1) refl) ∙ sym (t .list-of .ensures .0) ∙ c .before .number .given .1))
+    let told = sym (list-told (a .args .i) (now (a .args .room)) _ (a .pre .1 .0) (a .pre .1 .1) refl) in
+    absurd (told-done (held (slot (a .args .i) (now (a .args .room)))) (told ∙ sym (t .list-of .ensures .0) ∙ c .before .number .given .1))
 
 pub put-line-spec : {M : Type 1} → statement M
 put-line-spec =
