@@ -89,7 +89,8 @@ pub list-number : (f : Family) (s : List ℕ) → ListNumber (checkOf f s)
 unfolding checkOf finish
 list-number f s =
     cond-number (headerOk s) _ _
-    (walk-number f (revOf s) (countOf s) 8 (drop 8 s) _ (λ end. cond-number (eqb end (length s)) (Done (length s) (countOf s)) (Refused 2 end) tt (omega arith, omega arith)))
+    (walk-number f (revOf s) (countOf s) 8 (drop 8 s) _
+    (λ end. cond-number (eqb end (length s)) (Done (length s) (countOf s)) (Refused 2 end) tt (omega arith, omega arith)))
     (omega arith, omega arith)
 
 -- with its row by 8 besides, with offset 0; so the number is 0 exactly where the list was read

@@ -20,7 +20,8 @@ eg s m v = record { list = s; row = m; answer = v }
 pub table : List Example
 table =
     -- document 01's parent list
-    eg (0x02 ∷ 0 ∷ 0x1C ∷ 0 ∷ 0x01 ∷ 0 ∷ 0 ∷ 0 ∷ 0x00 ∷ 0x03 ∷ 0x14 ∷ 0 ∷ 0 ∷ 0 ∷ 0 ∷ 0x80 ∷ 0x01 ∷ 0x01 ∷ 0 ∷ 0 ∷ 0 ∷ 0 ∷ 0 ∷ 0x03 ∷ 0 ∷ 0 ∷ 0 ∷ 0 ∷ []) 2 (done 28 1 1 0)
+    eg (0x02 ∷ 0 ∷ 0x1C ∷ 0 ∷ 0x01 ∷ 0 ∷ 0 ∷ 0
+    ∷ 0x00 ∷ 0x03 ∷ 0x14 ∷ 0 ∷ 0 ∷ 0 ∷ 0 ∷ 0x80 ∷ 0x01 ∷ 0x01 ∷ 0 ∷ 0 ∷ 0 ∷ 0 ∷ 0 ∷ 0x03 ∷ 0 ∷ 0 ∷ 0 ∷ 0 ∷ []) 2 (done 28 1 1 0)
     -- 1: the size isn't the length
     ∷ eg (0x02 ∷ 0 ∷ 0x09 ∷ 0 ∷ 0 ∷ 0 ∷ 0 ∷ 0 ∷ []) 0 (refused 1 0 0)
     -- 2: no four bytes are there; the size is past the end; (d); (f); (h); bytes remain
@@ -40,6 +41,11 @@ table =
     ∷ eg (0x02 ∷ 0 ∷ 0x18 ∷ 0 ∷ 0x01 ∷ 0 ∷ 0 ∷ 0 ∷ 0x00 ∷ 0x00 ∷ 0x10 ∷ 0 ∷ 0 ∷ 0 ∷ 0 ∷ 0 ∷ 0x01 ∷ 0x00 ∷ 0 ∷ 0 ∷ 0 ∷ 0 ∷ 0 ∷ 0 ∷ []) 0 (refused 8 0 0)
     ∷ []
 
+-- what an entry's test opens
+entry-open : Unit {0}
+unfolding entryOf need kindOk plainOf objectOf objectKind flagsOk headOf wordAfter tailOk sidLen le
+entry-open = tt
+
 pub examples : map (λ x. answerOf (x .list) (x .row)) table ≡ map (λ x. x .answer) table
-unfolding table eg readOf withRow checkOf headerOk revOk walkOf onGood finish entryOf need kindOk plainOf objectOf objectKind flagsOk headOf wordAfter tailOk sidLen le
+unfolding table eg readOf withRow checkOf headerOk revOk walkOf onGood finish entry-open
 examples = refl

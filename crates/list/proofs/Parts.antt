@@ -36,7 +36,8 @@ cut-built f rev (e ∷ es) v ws =
     let u = flatten es ++ v in
     rw (append-assoc, size-joined f rev e u (ws .0), drop-at e u (length e) refl, take-at e u (length e) refl, cut-built f rev es v (ws .1))
 
-pub end-built : (f : Family) (rev : ℕ) (es : List (List ℕ)) (at : ℕ) (v : List ℕ) → Every (Whole f rev) es → endOf (length es) at (flatten es ++ v) ≡ at + length (flatten es)
+pub end-built : (f : Family) (rev : ℕ) (es : List (List ℕ)) (at : ℕ) (v : List ℕ) → Every (Whole f rev) es
+    → endOf (length es) at (flatten es ++ v) ≡ at + length (flatten es)
 unfolding flatten endOf
 end-built f rev [] at v ws = omega arith
 end-built f rev (e ∷ es) at v ws =

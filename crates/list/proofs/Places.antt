@@ -7,7 +7,8 @@ use native.Mathlib.Decide.{decLe}
 use native.Mathlib.Numerals.{add-one}
 use native.Mathlib.Omega.{arith}
 use lib.ListN.{length, take, drop, getD, set, length-take, length-drop, length-append, take-append-drop, drop-of-length-le}
-use lib.Seq.{take-append-le, take-append-add, drop-append-le, drop-at, take-at, take-take, take-all, take-length, drop-length, drop-drop, length-take-le, drop-append-add, getD-take, getD-drop, set-split}
+use lib.Seq.{take-append-le, take-append-add, drop-append-le, drop-append-add, drop-at, take-at, take-take, take-all, take-length, length-take-le}
+use lib.Seq.{drop-length, drop-drop, getD-take, getD-drop, set-split}
 use Rattle.list.specs.Bytes.{part, putAt, putOn}
 use Rattle.list.proofs.Writes.{tail-put}
 
@@ -91,7 +92,8 @@ put-append a b c l h =
     let k : a + length b + length c ≡ length (take a l ++ b) + length c = omega arith in
     let n : a + length b + length c ≡ a + length (b ++ c) = simp length-append (omega arith) in
     ap (λ (t : List ℕ). take (a + length b) t ++ (c ++ drop (a + length b + length c) t)) q
-    ∙ ap (λ (t : List ℕ). t ++ (c ++ drop (a + length b + length c) ((take a l ++ b) ++ drop (a + length b) l))) (take-at (take a l ++ b) (drop (a + length b) l) (a + length b) e)
+    ∙ ap (λ (t : List ℕ). t ++ (c ++ drop (a + length b + length c) ((take a l ++ b) ++ drop (a + length b) l)))
+    (take-at (take a l ++ b) (drop (a + length b) l) (a + length b) e)
     ∙ ap (λ (t : List ℕ). (take a l ++ b) ++ (c ++ t))
     (ap (λ (m : ℕ). drop m ((take a l ++ b) ++ drop (a + length b) l)) k
     ∙ drop-append-add (take a l ++ b) (drop (a + length b) l) (length c)
@@ -148,7 +150,8 @@ part-put-on a n c b l h m =
     let e : length p ≡ a = length-take-le a l (omega arith) in
     let f : length q ≡ n = length-part a n l m in
     let w : l ≡ p ++ (q ++ r) = sym (rw (take-append-drop n (drop a l)) (take-append-drop a l)) in
-    let x : putAt (length p + c) b (p ++ (q ++ r)) ≡ p ++ (putAt c b q ++ r) = put-right c b p (q ++ r) ∙ ap (λ (t : List ℕ). p ++ t) (put-left c b q r (omega arith)) in
+    let x : putAt (length p + c) b (p ++ (q ++ r)) ≡ p ++ (putAt c b q ++ r) =
+    put-right c b p (q ++ r) ∙ ap (λ (t : List ℕ). p ++ t) (put-left c b q r (omega arith)) in
     ap (λ (k : ℕ). part a n (putAt (k + c) b l)) (sym e)
     ∙ ap (λ (t : List ℕ). part a n (putAt (length p + c) b t)) w
     ∙ ap (part a n) x

@@ -10,7 +10,8 @@ use lib.Dec.{eqb}
 use borrow.Author.Tests.{eqb-true, eq-eqb, le-leb}
 use Rattle.list.specs.Bytes.{le, spell, guidAt}
 use Rattle.list.specs.Identity.{sidLen}
-use Rattle.list.specs.Entry.{Family, flagsOk, tailOk, entryBytes, kindOf, sizeOf, flagsOf, maskOf, objectKind, headOf, wordAfter, wordOf, guidsOf, sidAt, sidLenOf, sidEnd, middleOf, sidOf, tailOf}
+use Rattle.list.specs.Entry.{Family, flagsOk, tailOk, entryBytes, kindOf, sizeOf, flagsOf, maskOf, objectKind, headOf, wordAfter, wordOf}
+use Rattle.list.specs.Entry.{guidsOf, sidAt, sidLenOf, sidEnd, middleOf, sidOf, tailOf}
 use Rattle.list.specs.Good.{Sound, Whole, Bounds}
 use Rattle.list.proofs.Little.{le-append, le-spell, length-spell}
 use Rattle.list.proofs.Sids.{OneSid, sid-length, sid-append}

@@ -62,7 +62,9 @@ module _ (a b : List ℕ) (ha : 12 ≤ length a) (hb : 12 ≤ length b) where
         le-same 4 (drop j a) (drop j b) (omega (arith, length-drop j a)) (omega (arith, length-drop j b)) (bytes-drop j a da) (bytes-drop j b db) e
 
     three : (s : List ℕ) → take 12 s ≡ take 4 s ++ (take 4 (drop 4 s) ++ take 4 (drop 8 s))
-    three s = take-add 4 8 s ∙ ap (λ (u : List ℕ). take 4 s ++ u) (take-add 4 4 (drop 4 s) ∙ ap (λ (u : List ℕ). take 4 (drop 4 s) ++ take 4 u) (drop-drop 4 4 s))
+    three s =
+        take-add 4 8 s
+        ∙ ap (λ (u : List ℕ). take 4 s ++ u) (take-add 4 4 (drop 4 s) ∙ ap (λ (u : List ℕ). take 4 (drop 4 s) ++ take 4 u) (drop-drop 4 4 s))
 
     pub words-same : le 4 (drop 0 a) ≡ le 4 (drop 0 b) → le 4 (drop 4 a) ≡ le 4 (drop 4 b) → le 4 (drop 8 a) ≡ le 4 (drop 8 b)
         → sameBytes (take 12 a) (take 12 b) ≡ true

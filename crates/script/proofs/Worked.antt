@@ -5,24 +5,15 @@ use mathlib.Core.List.{List, [], _∷_, _++_, flatten}
 use mathlib.Core.Option.{Option, some}
 use Prim.Native.Nat.{ℕ}
 use lib.ListN.{drop, replicate}
-use Rattle.list.specs.Bytes.{le, spell, sameBytes, guidAt, part, putAt}
-use Rattle.list.specs.Identity.{sidLen, isSid, placeholderOf, identityOf}
-use Rattle.list.specs.Entry.{plainOf, objectOf, objectKind, kindOk, flagsOk, headOf, wordAfter, entryBytes, tailOk, need, entryOf}
-use Rattle.list.specs.List.{revOk, headerOk, cut, entriesOf, headBytes, render, onGood, walkOf, finish, checkOf}
-use Rattle.inherit.specs.Given.{Optional, absent, present, entriesIf, typesOk, typesOf}
-use Rattle.inherit.specs.Copies.{anyHeritable, among, typeApplies, pass, kept, takesFirst, firstPart, takesSecond, secondPart, fromParent, own, fromCreator}
-use Rattle.inherit.specs.Last.{inPlace, mapped, resolved, lastOf, lastStep}
-use Rattle.inherit.specs.Branch.{inheritedBit, withCreator, fromDefault, branch, resultOf}
-use Rattle.inherit.specs.Compute.{anyObject, withRoom, need as needed, onReading, readable, ruleOk, computeOf, bytesFor}
+use Rattle.list.specs.Bytes.{le, part, putAt}
+use Rattle.inherit.specs.Given.{Optional, absent, present}
 use Rattle.inherit.proofs.Worked.{system, parentWith}
-use Rattle.tree.specs.Held.{bytesIn, idIn, idFor, slotFor, blockFor}
 use Rattle.tree.specs.Room.{settingsFor}
 use Rattle.tree.specs.Formed.{placed}
-use Rattle.tree.specs.Work.{computed}
 use Rattle.tree.specs.Calls.{short, list, mark, owners, editAt, editBytes, nobody}
-use Rattle.tree.specs.History.{edit, undo, bind, rest, replay, afresh, noted, unnoted, next, remains}
-use Rattle.tree.specs.Replay.{alter, reads, fine, change, fromRoot, gather, work, rules, shown}
-use Rattle.tree.proofs.Worked.{lists}
+use Rattle.tree.specs.History.{edit, undo, rest, replay, afresh, noted, unnoted, next, remains}
+use Rattle.tree.specs.Replay.{alter, reads, fine, change, rules, shown}
+use Rattle.tree.proofs.Worked.{lists, bytes-open, entries-open, lists-open, copies-open, last-open, compute-open, tree-open}
 use Rattle.script.specs.declared.records.Found.the-variants.{Cut, Bad, Record}
 use Rattle.script.specs.Record.{nameEnd, listEnd, parentOf, sizeOf, formOk, asked, stepOf}
 use Rattle.script.specs.Fold.{past, onStep, runBy, runOf, onCall, callsBy, callsOf}
@@ -74,40 +65,6 @@ pub texts-worked :
 unfolding le digits decimal columnsBy columns line lines heading listing badLine
 texts-worked = (refl, refl)
 
--- ---- what the computations below open, layer by layer
-
-bytes-open : Unit {0}
-unfolding le spell sameBytes guidAt part putAt sidLen isSid placeholderOf identityOf flatten
-bytes-open = tt
-
-entries-open : Unit {0}
-unfolding plainOf objectOf objectKind kindOk flagsOk headOf wordAfter entryBytes tailOk need entryOf
-entries-open = tt
-
-lists-open : Unit {0}
-unfolding revOk headerOk cut entriesOf headBytes render onGood walkOf finish checkOf entriesIf
-lists-open = tt
-
-copies-open : Unit {0}
-unfolding typesOk typesOf anyHeritable among typeApplies pass kept takesFirst firstPart takesSecond secondPart fromParent own fromCreator
-copies-open = tt
-
-compute-open : Unit {0}
-unfolding inPlace mapped resolved lastOf lastStep inheritedBit withCreator fromDefault branch resultOf anyObject withRoom needed onReading readable ruleOk computeOf bytesFor
-compute-open = tt
-
-tree-open : Unit {0}
-unfolding bytesIn idIn idFor slotFor blockFor settingsFor placed computed short editAt editBytes fromRoot gather work
-tree-open = tt
-
-machine-open : Unit {0}
-unfolding bind rest replay afresh noted unnoted next remains reads fine change rules
-machine-open = tt
-
-script-open : Unit {0}
-unfolding nameEnd listEnd parentOf sizeOf formOk asked stepOf onCall callsBy callsOf
-script-open = tt
-
 -- ---- document 01's own script
 
 -- owner and group S-1-5-18
@@ -130,10 +87,19 @@ whole : endingOf document ≡ Listed (shown (runOf records fresh .room) .lists)
 unfolding le flatten nameEnd listEnd sizeOf formOk stepOf past onStep runBy runOf headOk endOf endingOf
 whole = refl
 
+-- what its changes and its records open, beside what a tree does
+past-open : Unit {0}
+unfolding placed short editAt editBytes rest replay afresh noted unnoted next remains reads fine change rules
+past-open = tt
+
+records-open : Unit {0}
+unfolding putAt nameEnd listEnd parentOf sizeOf formOk asked stepOf onCall callsBy callsOf
+records-open = tt
+
 -- what is worked out afresh from its two changes
 afresh-worked :
     afresh (rules 16 (settingsFor 2 mapping absent)) 16 (remains (rules 16 (settingsFor 2 mapping absent)) 16 (callsOf (drop 5 document)) .done) ≡ some lists
-unfolding bytes-open entries-open lists-open copies-open compute-open tree-open machine-open script-open
+unfolding bytes-open entries-open lists-open copies-open last-open compute-open tree-open past-open records-open
 afresh-worked = refl
 
 some-same : (a b : List Optional) → _≡_ {A = Option (List Optional)} (some a) (some b) → a ≡ b

@@ -188,10 +188,12 @@ module _ (w : List ℕ) (ready : Ready w) (p : 0 < kept w) (hi : numberOf (lates
       → Became w w₃ (left w) (upd (numberOf (latest w)) (savedIn (latest w)) (λ j. own j w)) (kept w - 1) (λ j. step (limit w) (suc j) w)
   undo-became w₃ e =
       subst (λ (x : List ℕ). Became w w₃ (left w) (upd (numberOf (latest w)) x (λ j. own j w)) (kept w - 1) (λ j. step (limit w) (suc j) w)) saved-whole
-      (settled-became w _ ready (takes .same) (takes .size) (numberOf (latest w)) 0 (savedIn (latest w)) (left w) hi hn (omega (arith, saved-length)) _ _ (takes .count)
+      (settled-became w _ ready (takes .same) (takes .size) (numberOf (latest w)) 0 (savedIn (latest w)) (left w) hi hn (omega (arith, saved-length)) _ _
+      (takes .count)
       (λ j h. takes .later j (omega arith)) w₃ (sym undone-as ∙ e))
 
   pub undo-refused : undone w ≡ none → inOrder (settings w) (tab (left w) (upd (numberOf (latest w)) (savedIn (latest w)) (λ j. own j w))) (left w) ≡ none
   undo-refused e =
       subst (λ (x : List ℕ). inOrder (settings w) (tab (left w) (upd (numberOf (latest w)) x (λ j. own j w))) (left w) ≡ none) saved-whole
-      (settled-refused w _ ready (takes .same) (takes .size) (numberOf (latest w)) 0 (savedIn (latest w)) (left w) hi hn (omega (arith, saved-length)) (sym undone-as ∙ e))
+      (settled-refused w _ ready (takes .same) (takes .size) (numberOf (latest w)) 0 (savedIn (latest w)) (left w) hi hn (omega (arith, saved-length))
+      (sym undone-as ∙ e))

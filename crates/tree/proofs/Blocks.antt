@@ -12,7 +12,8 @@ use Rattle.list.specs.Bytes.{part, guidAt}
 use Rattle.list.proofs.Tests.{both-true}
 use Rattle.inherit.specs.Given.{Optional}
 use Rattle.inherit.specs.Compute.{ordinary}
-use Rattle.tree.specs.Held.{held, slotFor, slotOk, idIn, idFor, idOk, parentOf, kindOf, markOf, typeOf, ownerOf, groupOf, ownSlot, ownList, blockOk, New, yes, blockFor}
+use Rattle.tree.specs.Held.{held, slotFor, slotOk, idIn, idFor, idOk, parentOf, kindOf, markOf, typeOf, ownerOf, groupOf, ownSlot, ownList}
+use Rattle.tree.specs.Held.{blockOk, New, yes, blockFor}
 use Rattle.tree.specs.Calls.{short}
 use Rattle.tree.specs.Replay.{reads}
 use Rattle.tree.proofs.Lays.{length-slot}
@@ -110,7 +111,8 @@ length-guid s at = by (leb (at + 16) (length s)) refl
     by false e = length-replicate {A = ℕ} 16 0
 
 module _ (new : New) (o : ordinary (new .owner) ≡ true) (g : ordinary (new .group) ≡ true) (s : short (new .list) ≡ true) where
-  new-laid : Laid (blockFor new) (min 255 (new .parent)) (yes (new .container)) (yes (new .mark)) (guidAt (new .type) 0) (idFor (new .owner)) (idFor (new .group)) (slotFor (new .list))
+  new-laid : Laid (blockFor new) (min 255 (new .parent)) (yes (new .container)) (yes (new .mark)) (guidAt (new .type) 0) (idFor (new .owner))
+      (idFor (new .group)) (slotFor (new .list))
   unfolding blockFor
   new-laid =
       let t = length-guid (new .type) 0 in
@@ -143,7 +145,8 @@ module _ (new : New) (o : ordinary (new .owner) ≡ true) (g : ordinary (new .gr
             ∙ part-all 1027 c ls;
       }
 
-  pub new-shows : Shows (blockFor new) (min 255 (new .parent)) (yes (new .container)) (yes (new .mark)) (guidAt (new .type) 0) (new .owner) (new .group) (new .list)
+  pub new-shows : Shows (blockFor new) (min 255 (new .parent)) (yes (new .container)) (yes (new .mark)) (guidAt (new .type) 0) (new .owner) (new .group)
+      (new .list)
   new-shows = laid-shows new-laid (id-held (new .owner) o) (id-held (new .group) g) (held-slot (new .list) s)
 
   pub new-good : reads (new .list) ≡ true → blockOk (blockFor new) ≡ true

@@ -19,16 +19,19 @@ use Rattle.tree.specs.declared.tests.Fault.{Fault}
 use Rattle.tree.specs.Held.{New, held, blockFor}
 use Rattle.tree.specs.Room.{limit, objects, kept, ownAt, own, slot, step, numberOf, area}
 use Rattle.tree.specs.Formed.{Head, standing, formed}
-use Rattle.tree.specs.Calls.{Outcome, refuse, need, readable, short, told, popped, settled, changed, latest, undone, finish, finishUndo, Edit, list, mark, owners, editAt, editBytes, tested, addTo, alterTo, undoTo}
+use Rattle.tree.specs.Calls.{Outcome, refuse, need, readable, short, told, popped, settled, changed, latest, undone, finish, finishUndo, Edit}
+use Rattle.tree.specs.Calls.{list, mark, owners, editAt, editBytes, tested, addTo, alterTo, undoTo}
 use Rattle.tree.specs.Faults.{objectFault, addFault, faultOf}
 use Rattle.tree.proofs.Tested.{head-says, Forms, formed-parts, standing-most}
 use Rattle.tree.proofs.Applied.{Adds, Again, step-facts, steps-off}
-use Rattle.tree.proofs.Answered.{settle, need-yes, need-no, formed-head, readable-good, readable-bad, on-object-good, on-object-bad, object-facts, add-good, add-bad, add-facts}
+use Rattle.tree.proofs.Answered.{settle, need-yes, need-no, formed-head, readable-good, readable-bad, on-object-good, on-object-bad}
+use Rattle.tree.proofs.Answered.{object-facts, add-good, add-bad, add-facts}
 use Rattle.tree.proofs.Areas.{area-byte, area-step}
 
 -- ---- the end of a change, and of an undo
 
-pub finish-some : (i : ℕ) (r w r₁ s : List ℕ) (o : Option (List ℕ)) (a : Answer) → length w ≤ length r → o ≡ some w → r₁ ≡ putOn w r → s ≡ slot i w → a ≡ told (held s)
+pub finish-some : (i : ℕ) (r w r₁ s : List ℕ) (o : Option (List ℕ)) (a : Answer) → length w ≤ length r → o ≡ some w → r₁ ≡ putOn w r → s ≡ slot i w
+    → a ≡ told (held s)
     → (a ≡ finish i r o .answer) × (r₁ ≡ finish i r o .bytes)
 unfolding finish
 finish-some i r w r₁ s o a l e f q t = rw e (t ∙ ap (λ (x : List ℕ). told (held x)) q, f ∙ put-all w r l)
@@ -37,7 +40,8 @@ pub finish-none : (i : ℕ) (r : List ℕ) (o : Option (List ℕ)) → o ≡ non
 unfolding finish
 finish-none i r o e = rw e (refl, refl)
 
-pub undo-some : (r w r₁ : List ℕ) (o : Option (List ℕ)) → length w ≤ length r → o ≡ some w → r₁ ≡ putOn w r → (Done 0 false 0 ≡ finishUndo r o .answer) × (r₁ ≡ finishUndo r o .bytes)
+pub undo-some : (r w r₁ : List ℕ) (o : Option (List ℕ)) → length w ≤ length r → o ≡ some w → r₁ ≡ putOn w r
+    → (Done 0 false 0 ≡ finishUndo r o .answer) × (r₁ ≡ finishUndo r o .bytes)
 unfolding finishUndo
 undo-some r w r₁ o l e f = rw e (refl, f ∙ put-all w r l)
 
@@ -52,7 +56,8 @@ latest-area : (r : List ℕ) → Head r → 0 < kept r → latest (area r) ≡ l
 latest-area r h k = rw (area-byte r 0 (omega arith)) (area-step r 0 (omega arith))
 
 -- as the code finds it: the object's number, what it puts back, and how many objects stand then
-module _ (r : List ℕ) (h : Head r) (n c j m : ℕ) (u b : List ℕ) (en : n ≡ limit r) (eu : u ≡ step n 0 r) (ej : j ≡ numberOf u) (eb : b ≡ part 2 1184 u) (ec : c ≡ objects r)
+module _ (r : List ℕ) (h : Head r) (n c j m : ℕ) (u b : List ℕ) (en : n ≡ limit r) (eu : u ≡ step n 0 r) (ej : j ≡ numberOf u) (eb : b ≡ part 2 1184 u)
+    (ec : c ≡ objects r)
     (em : m ≡ standing c u) where
   latest-is : latest r ≡ u
   latest-is = rw (← en) (sym eu)
@@ -73,7 +78,9 @@ module _ (r : List ℕ) (h : Head r) (n c j m : ℕ) (u b : List ℕ) (en : n �
 
 -- in a well-formed room it is of an object within the limit
 pub latest-within : (r : List ℕ) → formed r ≡ true → 0 < kept r → numberOf (latest r) < limit r
-latest-within r f k = by (step-facts (λ i. own i r) (objects r) (latest r) (steps-off (λ i. own i r) (λ j. step (limit r) j r) (kept r - 1) (objects r) (rw (← e) (p .steps-ok)) .0))
+latest-within r f k =
+    by (step-facts (λ i. own i r) (objects r) (latest r)
+    (steps-off (λ i. own i r) (λ j. step (limit r) j r) (kept r - 1) (objects r) (rw (← e) (p .steps-ok)) .0))
   where
     p : Forms r
     p = formed-parts r f
@@ -222,6 +229,7 @@ module _ (r : List ℕ) (k : ℕ) (f : formed r ≡ true) (q : k ≡ kept r) whe
     pub undo-asks : Head r × ((0 < kept r) × (numberOf (latest r) < limit r))
     undo-asks = (formed-head r f, (some-kept, latest-within r f some-kept))
 
-    pub undo-done : (r₁ : List ℕ) (a : Answer) → (a ≡ finishUndo r (undone (area r)) .answer) × (r₁ ≡ finishUndo r (undone (area r)) .bytes) → (a ≡ undoTo r .answer) × (r₁ ≡ undoTo r .bytes)
+    pub undo-done : (r₁ : List ℕ) (a : Answer) → (a ≡ finishUndo r (undone (area r)) .answer) × (r₁ ≡ finishUndo r (undone (area r)) .bytes)
+        → (a ≡ undoTo r .answer) × (r₁ ≡ undoTo r .bytes)
     unfolding undoTo
     undo-done r₁ a h = settle (need-yes 13 r _ f ∙ need-yes 11 r _ (lt-ltb 0 (kept r) some-kept)) (h .0) (h .1)

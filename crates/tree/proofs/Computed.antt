@@ -123,7 +123,8 @@ module _ (bytes : List ℕ) where
   refused-long nothing h = let z : _≡_ {A = ℕ} 0 1 = cc in absurd (omega arith)
   refused-long (these es k) h = record { entries = es; control = k; is = refl; long = no-room es k (fits 1024 es) refl h }
 
-module _ (e : List ℕ) (p : Optional) (b : List ℕ) (h : ruleOk (ruleOf e) ≡ true) (hp : reads p ≡ true) (hb : blockOk b ≡ true) (hd : reads (defaultOf e) ≡ true) where
+module _ (e : List ℕ) (p : Optional) (b : List ℕ) (h : ruleOk (ruleOf e) ≡ true) (hp : reads p ≡ true) (hb : blockOk b ≡ true)
+    (hd : reads (defaultOf e) ≡ true) where
   all-passed : Passed (settingsIn e p b) (givenIn e p b) (typeOf b) p (ownList b) (defaultOf e)
   all-passed =
       let s = block-sound b hb in

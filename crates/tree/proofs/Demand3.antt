@@ -1,6 +1,7 @@
--- Demand 3, for every sequence of calls on a started tree. After any mixture of changes, undos and refused calls: the room is well formed; every object's own data is what a replay
--- of the accepted changes not since undone gives; every computed list is the one worked out afresh from the root (Replay's fromRoot, up the parents); as many steps are kept as
--- document 01 says; the next call is accepted exactly where the past says so, and where it is refused no byte changes; undo answers 11 exactly where no kept step is left, else it is done.
+-- Demand 3, for every sequence of calls on a started tree. After any mixture of changes, undos and refused calls: the room is well formed; every object's own
+-- data is what a replay of the accepted changes not since undone gives; every computed list is the one worked out afresh from the root (Replay's fromRoot, up
+-- the parents); as many steps are kept as document 01 says; the next call is accepted exactly where the past says so, and where it is refused no byte
+-- changes; undo answers 11 exactly where no kept step is left, else it is done.
 -- Besides, for any well-formed room, reached by calls or not: a call leaves it well formed, and an accepted one leaves every list fresh.
 use mathlib.Core.Path.{_≡_, refl, sym, ap, _∙_, subst}
 use mathlib.Core.Bool.{Bool, true, false, _&&_}
@@ -21,8 +22,10 @@ use Rattle.tree.specs.declared.Answer.the-variants.{Done, Refused}
 use Rattle.tree.specs.Held.{held, ownList}
 use Rattle.tree.specs.Room.{limit, depth, objects, kept, roomFor, limitsOk, settings, settingsFor, own, slot, area, emptyRoom}
 use Rattle.tree.specs.Formed.{stepsOk, formed}
-use Rattle.tree.specs.Calls.{Outcome, need, short, onObject, told, bytesIf, dataOf, copied, startOk, finishUndo, undone, startTo, undoTo, listTo, ownTo, dataTo}
-use Rattle.tree.specs.History.{State, Call, edit, undo, Rules, settled, edited, undone as machine-undone, after, start, run, replay, afresh, remains, accepts, isSome, orElse, positive}
+use Rattle.tree.specs.Calls.{Outcome, need, short, onObject, told, bytesIf, dataOf, copied, startOk, finishUndo, undone, startTo, undoTo, listTo}
+use Rattle.tree.specs.Calls.{ownTo, dataTo}
+use Rattle.tree.specs.History.{State, Call, edit, undo, Rules, settled, edited, undone as machine-undone, after, start, run, replay, afresh}
+use Rattle.tree.specs.History.{remains, accepts, isSome, orElse, positive}
 use Rattle.tree.specs.Replay.{Change, Tree, reads, when, work, rules, tab, shown}
 use Rattle.tree.specs.Played.{callTo, accepted, played}
 use Rattle.tree.proofs.Tab.{length-tab, getD-tab}
@@ -74,7 +77,8 @@ keeps r h q =
 
 -- ---- a started tree
 
-module _ (n s rule : ℕ) (m : Mapping) (default : Optional) (r : List ℕ) (ok : startOk n s rule (length r) ≡ true) (good : reads default ≡ true) (few : short default ≡ true) where
+module _ (n s rule : ℕ) (m : Mapping) (default : Optional) (r : List ℕ) (ok : startOk n s rule (length r) ≡ true) (good : reads default ≡ true)
+    (few : short default ≡ true) where
   E : List ℕ
   E = settingsFor rule m default
 
@@ -159,7 +163,8 @@ module _ (n s : ℕ) (e : List ℕ) where
     shows : shown r ≡ t
 
   -- one more call
-  call-by : (r r′ : List ℕ) (t : Tree) (m : Option Tree) (b : Bool) → shown r ≡ t → m ≡ when b (shown r′) → (b ≡ false → r′ ≡ r) → (shown r′ ≡ orElse t m) × (b ≡ isSome m)
+  call-by : (r r′ : List ℕ) (t : Tree) (m : Option Tree) (b : Bool) → shown r ≡ t → m ≡ when b (shown r′) → (b ≡ false → r′ ≡ r)
+      → (shown r′ ≡ orElse t m) × (b ≡ isSome m)
   unfolding orElse isSome
   call-by r r′ t m true e h stays = rw h (refl, refl)
   call-by r r′ t m false e h stays = rw h (rw (stays refl) e, refl)
@@ -253,7 +258,8 @@ module _ (n s rule : ℕ) (m : Mapping) (default : Optional) (r : List ℕ) wher
       let H = history (rules n (settingsFor rule m default)) (lawful n (settingsFor rule m default)) s qs in
       let left : kept (played qs (front (emptyRoom n s rule m default) r)) ≡ remains (rules n (settingsFor rule m default)) s qs .left =
       sym (shown-kept (played qs (front (emptyRoom n s rule m default) r))) ∙ ap (λ (t : Tree). length (t .kept)) (g .shows) ∙ H .steps-left in
-      let told : (q : Call Change) → accepted (callTo q (played qs (front (emptyRoom n s rule m default) r)) .answer) ≡ accepts (rules n (settingsFor rule m default)) s (remains (rules n (settingsFor rule m default)) s qs) q =
+      let told : (q : Call Change) → accepted (callTo q (played qs (front (emptyRoom n s rule m default) r)) .answer)
+      ≡ accepts (rules n (settingsFor rule m default)) s (remains (rules n (settingsFor rule m default)) s qs) q =
       λ q. call-good n s (settingsFor rule m default) _ _ q g .1 ∙ H .told q in
       record {
         well = g .well;

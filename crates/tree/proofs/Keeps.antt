@@ -36,7 +36,8 @@ object-facts r i h =
     let a = both-true (blockOk (own i r)) _ h in
     (a .0, both-true (placed 255 (λ j. own j r) i (parentOf (own i r))) (slotOk (slot i r)) (a .1))
 
-object-from : (r : List ℕ) (i : ℕ) → blockOk (own i r) ≡ true → placed 255 (λ j. own j r) i (parentOf (own i r)) ≡ true → slotOk (slot i r) ≡ true → objectOk r i ≡ true
+object-from : (r : List ℕ) (i : ℕ) → blockOk (own i r) ≡ true → placed 255 (λ j. own j r) i (parentOf (own i r)) ≡ true → slotOk (slot i r) ≡ true
+    → objectOk r i ≡ true
 unfolding objectOk
 object-from r i a b c = rw (a, b) c
 
@@ -150,15 +151,19 @@ module _ (r : List ℕ) (F : Formed r) (w : List ℕ) (n : ℕ) (f : ℕ → Lis
       record {
         head = new-head;
         settings-ok = rw new-settings (F .settings-ok);
-        owned = subst (λ (m : ℕ). Owned m (λ j. own j (front w r))) (sym new-objects) (owned-off n n f (λ j. own j (front w r)) O (omega arith) (λ j q. sym (new-own j q)));
+        owned = subst (λ (m : ℕ). Owned m (λ j. own j (front w r))) (sym new-objects)
+            (owned-off n n f (λ j. own j (front w r)) O (omega arith) (λ j q. sym (new-own j q)));
         slots = λ i q. let z : i < n = omega (arith, new-objects) in rw (new-slot i z) (B .slots i z);
-        steps = rw (new-objects, new-kept) (steps-as f (λ j. own j (front w r)) g (λ j. step (limit (front w r)) j (front w r)) k n (λ j q. sym (new-own j q)) (λ j q. sym (new-step j q)) T);
+        steps = rw (new-objects, new-kept)
+            (steps-as f (λ j. own j (front w r)) g (λ j. step (limit (front w r)) j (front w r)) k n (λ j q. sym (new-own j q)) (λ j q. sym (new-step j q)) T);
       }
 
   pub new-shown : shown (front w r) ≡ record { own = tab n f; lists = tab n (λ j. held (slot j w)); kept = tab k (λ j. undoIn (g j)) }
   unfolding shown
   new-shown =
       let a : tab (objects (front w r)) (λ i. own i (front w r)) ≡ tab n f = tab-as _ n _ f new-objects new-own in
-      let b : tab (objects (front w r)) (λ i. held (slot i (front w r))) ≡ tab n (λ j. held (slot j w)) = tab-as _ n _ (λ j. held (slot j w)) new-objects (λ j q. ap held (new-slot j q)) in
-      let c : tab (kept (front w r)) (λ j. undoIn (step (limit (front w r)) j (front w r))) ≡ tab k (λ j. undoIn (g j)) = tab-as _ k _ (λ j. undoIn (g j)) new-kept (λ j q. ap undoIn (new-step j q)) in
+      let b : tab (objects (front w r)) (λ i. held (slot i (front w r))) ≡ tab n (λ j. held (slot j w)) =
+      tab-as _ n _ (λ j. held (slot j w)) new-objects (λ j q. ap held (new-slot j q)) in
+      let c : tab (kept (front w r)) (λ j. undoIn (step (limit (front w r)) j (front w r))) ≡ tab k (λ j. undoIn (g j)) =
+      tab-as _ k _ (λ j. undoIn (g j)) new-kept (λ j q. ap undoIn (new-step j q)) in
       rw (a, b, c) refl

@@ -46,7 +46,8 @@ module _ (r : List ℕ) (n s : ℕ) (en : n ≡ limit r) (es : s ≡ depth r) wh
     unfolding shifted
     shift-is k m b w₁ c w₂ p ek em eb e ec f =
         let q : stepsAt n + (s - 1) * 1186 ≤ roomFor n s = omega arith in
-        let g : part (stepsAt n) ((s - 1) * 1186) (take (roomFor n s) r) ≡ part (stepsAt n) ((s - 1) * 1186) r = part-of-take (stepsAt n) ((s - 1) * 1186) (roomFor n s) r q in
+        let g : part (stepsAt n) ((s - 1) * 1186) (take (roomFor n s) r) ≡ part (stepsAt n) ((s - 1) * 1186) r =
+        part-of-take (stepsAt n) ((s - 1) * 1186) (roomFor n s) r q in
         rw (f, ec, copy-is b w₁ eb e, area-byte r 0 (omega arith), area-byte r 1 (omega arith), area-byte r 3 (omega arith), ← en, ← es, ← ek, em, g)
 
     pub pop-is : (k : ℕ) (b w₁ c w₂ : List ℕ) → 0 < s → k ≡ kept r
@@ -56,7 +57,8 @@ module _ (r : List ℕ) (n s : ℕ) (en : n ≡ limit r) (es : s ≡ depth r) wh
     unfolding popped
     pop-is k b w₁ c w₂ p ek eb e ec f =
         let q : stepsAt n + 1186 + (s - 1) * 1186 ≤ roomFor n s = omega arith in
-        let g : part (stepsAt n + 1186) ((s - 1) * 1186) (take (roomFor n s) r) ≡ part (stepsAt n + 1186) ((s - 1) * 1186) r = part-of-take (stepsAt n + 1186) ((s - 1) * 1186) (roomFor n s) r q in
+        let g : part (stepsAt n + 1186) ((s - 1) * 1186) (take (roomFor n s) r) ≡ part (stepsAt n + 1186) ((s - 1) * 1186) r =
+        part-of-take (stepsAt n + 1186) ((s - 1) * 1186) (roomFor n s) r q in
         rw (f, ec, copy-is b w₁ eb e, area-byte r 0 (omega arith), area-byte r 1 (omega arith), area-byte r 3 (omega arith), ← en, ← es, ← ek, g)
 
     -- a step kept, where none are, and where some are

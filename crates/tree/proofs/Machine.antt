@@ -61,12 +61,14 @@ Asked N new n f =
 module _ (N S : ℕ) (e : List ℕ) (n : ℕ) (f : ℕ → List ℕ) (ls : List Optional) (us : List Undo) where
   pub alter-after : (i : ℕ) (ed : Edit) → i < n → fine ed ≡ true
       → after (rules N e) S (record { own = tab n f; lists = ls; kept = us }) (edit (alter i ed))
-      ≡ settled (rules N e) S (tab n (upd i (putAt (editAt ed) (editBytes ed) (f i)) f)) (take S (again i (f i) ∷ us)) (work e (tab n (upd i (putAt (editAt ed) (editBytes ed) (f i)) f)))
+      ≡ settled (rules N e) S (tab n (upd i (putAt (editAt ed) (editBytes ed) (f i)) f)) (take S (again i (f i) ∷ us))
+      (work e (tab n (upd i (putAt (editAt ed) (editBytes ed) (f i)) f)))
   unfolding after edited rules change keep
   alter-after i ed h g =
       rw (length-tab n f, lt-ltb i n h, g, getD-tab n f i [] h, set-tab n i (putAt (editAt ed) (editBytes ed) (f i)) f h) refl
 
-  pub alter-none : (i : ℕ) (ed : Edit) → (ltb i n && fine ed) ≡ false → after (rules N e) S (record { own = tab n f; lists = ls; kept = us }) (edit (alter i ed)) ≡ none
+  pub alter-none : (i : ℕ) (ed : Edit) → (ltb i n && fine ed) ≡ false
+      → after (rules N e) S (record { own = tab n f; lists = ls; kept = us }) (edit (alter i ed)) ≡ none
   unfolding after edited rules change
   alter-none i ed h = rw (length-tab n f, h) refl
 

@@ -1,5 +1,5 @@
--- Every call on a well-formed room, reached by calls or not, leaves a well-formed room, and shows what History's machine makes of the tree that the room showed:
--- refused exactly where the machine refuses, and then with every byte as it was.
+-- Every call on a well-formed room, reached by calls or not, leaves a well-formed room, and shows what History's machine makes of the tree that the room
+-- showed: refused exactly where the machine refuses, and then with every byte as it was.
 use mathlib.Core.Path.{_≡_, refl, sym, ap, _∙_, subst}
 use mathlib.Core.Bool.{Bool, true, false, cond, _&&_}
 use mathlib.Core.Logic.{⊎-elim}
@@ -23,7 +23,8 @@ use Rattle.inherit.specs.Compute.{ordinary}
 use Rattle.tree.specs.Held.{New, held, isDone, blockFor}
 use Rattle.tree.specs.Room.{limit, depth, objects, kept, settings, own, slot, step, tagOf, numberOf, savedIn, area}
 use Rattle.tree.specs.Formed.{Head, placed, stepsOk, formed}
-use Rattle.tree.specs.Calls.{Edit, list, mark, owners, Outcome, refuse, need, onReading, readable, short, onObject, tested, told as told-in, editAt, editBytes, changed, latest, left, undone, finish, finishUndo, nobody, addTo, alterTo, undoTo}
+use Rattle.tree.specs.Calls.{Edit, list, mark, owners, Outcome, refuse, need, onReading, readable, short, onObject, tested, told as told-in}
+use Rattle.tree.specs.Calls.{editAt, editBytes, changed, latest, left, undone, finish, finishUndo, nobody, addTo, alterTo, undoTo}
 use Rattle.tree.specs.History.{Call, edit, undo, settled, after}
 use Rattle.tree.specs.Replay.{Change, add, alter, Undo, off, again, Tree, reads, fine, when, work, rules, tab, undoIn, shown}
 use Rattle.tree.specs.Played.{callTo, accepted}
@@ -35,7 +36,8 @@ use Rattle.tree.proofs.Blocks.{new-shows, new-good}
 use Rattle.tree.proofs.Edits.{edit-fits, edit-keeps, edit-good}
 use Rattle.tree.proofs.Areas.{tab-as, area-byte, area-length, area-ready, area-settings, area-own, area-slot, area-step}
 use Rattle.tree.proofs.Became.{Became, change-became, change-refused, undo-became, undo-refused}
-use Rattle.tree.proofs.Keeps.{Formed, formed-facts, facts-formed, steps-as, work-as, new-limit, new-depth, new-length, new-settings, new-formed, new-shown}
+use Rattle.tree.proofs.Keeps.{Formed, formed-facts, facts-formed, steps-as, work-as, new-limit, new-depth, new-length, new-settings, new-formed}
+use Rattle.tree.proofs.Keeps.{new-shown}
 use Rattle.tree.proofs.Machine.{Asked, alter-after, alter-none, add-after, add-none, undo-none, undo-off, undo-again}
 
 -- how a call on r ends, where the machine gives m
@@ -115,7 +117,8 @@ tested-first : (e : Edit) (r : List ℕ) (rest : Outcome) → Passes r (tested e
 unfolding tested fine
 tested-first (list o) r rest = then r _ _ rest (reads o) (short o) (reads-first o 2 r (need (short o) 8 r rest)) (need-first (short o) 8 r rest)
 tested-first (mark m) r rest = on refl
-tested-first (owners o g) r rest = then r _ _ rest (ordinary o) (ordinary g) (need-first (ordinary o) 6 r (need (ordinary g) 6 r rest)) (need-first (ordinary g) 6 r rest)
+tested-first (owners o g) r rest =
+    then r _ _ rest (ordinary o) (ordinary g) (need-first (ordinary o) 6 r (need (ordinary g) 6 r rest)) (need-first (ordinary g) 6 r rest)
 
 -- ---- what a step holds
 
@@ -136,7 +139,8 @@ placed-as : (k n p : ℕ) (f f′ : ℕ → List ℕ) → ((j : ℕ) → j < n �
 unfolding placed
 placed-as k n p f f′ e = split n p (λ q. rw (le-ltb p n q) refl) (λ q. rw (e p q) refl)
 
-refused-as : (e x : List ℕ) (f : ℕ → List ℕ) (n n′ i i′ : ℕ) → n ≡ n′ → i ≡ i′ → inOrder e (tab n (upd i x f)) n ≡ none → inOrder e (tab n′ (upd i′ x f)) n′ ≡ none
+refused-as : (e x : List ℕ) (f : ℕ → List ℕ) (n n′ i i′ : ℕ) → n ≡ n′ → i ≡ i′ → inOrder e (tab n (upd i x f)) n ≡ none
+    → inOrder e (tab n′ (upd i′ x f)) n′ ≡ none
 refused-as e x f n n′ i i′ en ei q = rw (← en, ← ei) q
 
 -- ---- a room before a call, by its area
@@ -187,17 +191,24 @@ module _ (r : List ℕ) (F : Formed r) where
   unfolding shown
   shown-as =
       let a : tab (objects r) (λ i. own i r) ≡ tab (objects r) f₀ = tab-as _ _ _ f₀ refl (λ j q. sym (f-is j (omega (arith, h .within)))) in
-      let b : tab (objects r) (λ i. held (slot i r)) ≡ tab (objects r) (λ j. held (slot j (area r))) = tab-as _ _ _ (λ j. held (slot j (area r))) refl (λ j q. ap held (sym (area-slot r j (omega (arith, h .within))))) in
-      let c : tab (kept r) (λ j. undoIn (step (limit r) j r)) ≡ tab (kept r) (λ j. undoIn (g₀ j)) = tab-as _ _ _ (λ j. undoIn (g₀ j)) refl (λ j q. ap undoIn (sym (g-is j (omega (arith, h .kept-within))))) in
+      let b : tab (objects r) (λ i. held (slot i r)) ≡ tab (objects r) (λ j. held (slot j (area r))) =
+      tab-as _ _ _ (λ j. held (slot j (area r))) refl (λ j q. ap held (sym (area-slot r j (omega (arith, h .within))))) in
+      let c : tab (kept r) (λ j. undoIn (step (limit r) j r)) ≡ tab (kept r) (λ j. undoIn (g₀ j)) =
+      tab-as _ _ _ (λ j. undoIn (g₀ j)) refl (λ j q. ap undoIn (sym (g-is j (omega (arith, h .kept-within))))) in
       rw (a, b, c) refl
 
   -- ---- the end of a change or an undo
 
   Told : Option (List ℕ) → Option Tree → Type 0
   Told none m = m ≡ none
-  Told (some w) m = Formed (front w r) × ((limit (front w r) ≡ limit r) × ((depth (front w r) ≡ depth r) × ((settings (front w r) ≡ settings r) × ((length (front w r) ≡ length r) × (m ≡ some (shown (front w r)))))))
+  Told (some w) m =
+      Formed (front w r)
+      × ((limit (front w r) ≡ limit r)
+      × ((depth (front w r) ≡ depth r)
+      × ((settings (front w r) ≡ settings r) × ((length (front w r) ≡ length r) × (m ≡ some (shown (front w r)))))))
 
-  settled-none : (R : Option (List Optional)) (n : ℕ) (f : ℕ → List ℕ) (us : List Undo) → R ≡ none → settled (rules (limit r) (settings r)) (depth r) (tab n f) us R ≡ none
+  settled-none : (R : Option (List Optional)) (n : ℕ) (f : ℕ → List ℕ) (us : List Undo) → R ≡ none
+      → settled (rules (limit r) (settings r)) (depth r) (tab n f) us R ≡ none
   unfolding settled
   settled-none R n f us e = rw e refl
 
@@ -206,7 +217,8 @@ module _ (r : List ℕ) (F : Formed r) where
   unfolding settled
   settled-some R n f us ls e = rw e refl
 
-  settles : (o : Option (List ℕ)) (n : ℕ) (f : ℕ → List ℕ) (k : ℕ) (g : ℕ → List ℕ) (us : List Undo) → n ≤ limit r → k ≤ depth r → Owned n f → stepsOk f g k 0 n ≡ true
+  settles : (o : Option (List ℕ)) (n : ℕ) (f : ℕ → List ℕ) (k : ℕ) (g : ℕ → List ℕ) (us : List Undo) → n ≤ limit r → k ≤ depth r → Owned n f
+      → stepsOk f g k 0 n ≡ true
       → tab k (λ j. undoIn (g j)) ≡ us
       → ((w : List ℕ) → o ≡ some w → Became (area r) w n f k g) → (o ≡ none → inOrder (settings (area r)) (tab n f) n ≡ none)
       → Told o (settled (rules (limit r) (settings r)) (depth r) (tab n f) us (work (settings r) (tab n f)))
@@ -216,7 +228,8 @@ module _ (r : List ℕ) (F : Formed r) where
       (sym (work-as (settings r) n f O (omega (arith, h .limit-64))) ∙ rw (← area-settings r) (not-made refl))
   settles (some w) n f k g us hn hk O T eu made not-made =
       let B = made w refl in
-      let e : work (settings r) (tab n f) ≡ some (tab n (λ j. held (slot j w))) = sym (work-as (settings r) n f O (omega (arith, h .limit-64))) ∙ rw (← area-settings r) (B .lists) in (
+      let e : work (settings r) (tab n f) ≡ some (tab n (λ j. held (slot j w))) =
+      sym (work-as (settings r) n f O (omega (arith, h .limit-64))) ∙ rw (← area-settings r) (B .lists) in (
         new-formed r F w n f k g B hn hk O T,
         (
           new-limit r F w n f k g B hn hk O T,
@@ -227,7 +240,8 @@ module _ (r : List ℕ) (F : Formed r) where
               (
                 new-length r F w n f k g B hn hk O T,
                 settled-some (work (settings r) (tab n f)) n f us (tab n (λ j. held (slot j w))) e
-                    ∙ sym (ap some (new-shown r F w n f k g B hn hk O T ∙ ap (λ (vs : List Undo). record { own = tab n f; lists = tab n (λ j. held (slot j w)); kept = vs }) eu)),
+                    ∙ sym (ap some (new-shown r F w n f k g B hn hk O T
+                    ∙ ap (λ (vs : List Undo). record { own = tab n f; lists = tab n (λ j. held (slot j w)); kept = vs }) eu)),
               ),
             ),
           ),
@@ -268,7 +282,9 @@ module _ (r : List ℕ) (F : Formed r) where
   Next : Call Change → Option Tree
   Next q = after (rules (limit r) (settings r)) (depth r) (shown r) q
 
-  next-as : (q : Call Change) → Next q ≡ after (rules (limit r) (settings r)) (depth r) (record { own = tab (objects r) f₀; lists = tab (objects r) (λ j. held (slot j (area r))); kept = tab (kept r) (λ j. undoIn (g₀ j)) }) q
+  next-as : (q : Call Change)
+      → Next q ≡ after (rules (limit r) (settings r)) (depth r)
+      (record { own = tab (objects r) f₀; lists = tab (objects r) (λ j. held (slot j (area r))); kept = tab (kept r) (λ j. undoIn (g₀ j)) }) q
   unfolding Next
   next-as q = ap (λ (t : Tree). after (rules (limit r) (settings r)) (depth r) t q) shown-as
 
@@ -276,7 +292,8 @@ module _ (r : List ℕ) (F : Formed r) where
   passes-ends o rest true m (on e) go back = subst (λ (x : Outcome). Ends r x m) (sym e) (go refl)
   passes-ends o rest false m (stop x) go back = refuses-ends r F o m x (back refl)
 
-  pushed-steps : (u : List ℕ) → tab (min (depth (area r)) (suc (kept (area r)))) (λ j. undoIn (ahead u g₀ j)) ≡ take (depth r) (undoIn u ∷ tab (kept r) (λ j. undoIn (g₀ j)))
+  pushed-steps : (u : List ℕ) → tab (min (depth (area r)) (suc (kept (area r)))) (λ j. undoIn (ahead u g₀ j))
+      ≡ take (depth r) (undoIn u ∷ tab (kept r) (λ j. undoIn (g₀ j)))
   unfolding ahead
   pushed-steps u =
       rw (a-depth, a-kept)
@@ -303,12 +320,14 @@ module _ (r : List ℕ) (F : Formed r) where
       let ba = O₀ i hi .0 in
       let keeps = edit-keeps (own i (area r)) lo e he in
       let O = owned-put (objects r) i x f₀ O₀ hi (edit-good (own i (area r)) lo e he ba) keeps in
-      let T = put-steps (objects r) i (kept r) (min (depth (area r)) (suc (kept (area r)))) x u f₀ g₀ O₀ T₀ hi keeps refl refl (saved-is 2 i (own i (area r)) lo) few-steps in
+      let T = put-steps (objects r) i (kept r) (min (depth (area r)) (suc (kept (area r)))) x u f₀ g₀ O₀ T₀ hi keeps refl refl
+      (saved-is 2 i (own i (area r)) lo) few-steps in
       let us : List Undo = take (depth r) (undoIn u ∷ tab (kept r) (λ j. undoIn (g₀ j))) in
       subst (Ends r (finish i r (changed 2 i (editAt e) (editBytes e) (objects r) (area r))))
       (sym (next-as (edit (alter i e))
       ∙ alter-after (limit r) (depth r) (settings r) (objects r) f₀ _ _ i e hi he
-      ∙ ap (λ (y : Undo). settled (rules (limit r) (settings r)) (depth r) (tab (objects r) (upd i x f₀)) (take (depth r) (y ∷ tab (kept r) (λ j. undoIn (g₀ j)))) (work (settings r) (tab (objects r) (upd i x f₀)))) (sym (undo-of i (own i (area r)) lo))))
+      ∙ ap (λ (y : Undo). settled (rules (limit r) (settings r)) (depth r) (tab (objects r) (upd i x f₀))
+      (take (depth r) (y ∷ tab (kept r) (λ j. undoIn (g₀ j)))) (work (settings r) (tab (objects r) (upd i x f₀)))) (sym (undo-of i (own i (area r)) lo))))
       (change-ends i _ _
       (settles (changed 2 i (editAt e) (editBytes e) (objects r) (area r)) (objects r) (upd i x f₀) (min (depth (area r)) (suc (kept (area r)))) (ahead u g₀) us
       (omega (arith, h .within)) deep-steps O T (pushed-steps u)
@@ -346,16 +365,20 @@ module _ (r : List ℕ) (F : Formed r) where
       let x : List ℕ = putAt 0 (blockFor new) (own (objects r) (area r)) in
       let ex : x ≡ blockFor new = put-whole (blockFor new) (own (objects r) (area r)) (shows .long ∙ sym (own-long (objects r) nl)) in
       let u : List ℕ = 1 ∷ objects r ∷ own (objects r) (area r) in
-      let O = owned-add (objects r) (new .parent) x f₀ O₀ (omega (arith, h .limit-64)) (rw ex (new-good new (t₄ .0) (t₅ .0) (t₅ .1) (t₃ .0))) (t₁ .0) (rw ex (shows .parent)) in
+      let O = owned-add (objects r) (new .parent) x f₀ O₀ (omega (arith, h .limit-64)) (rw ex (new-good new (t₄ .0) (t₅ .0) (t₅ .1) (t₃ .0))) (t₁ .0)
+      (rw ex (shows .parent)) in
       let T = add-steps (objects r) (kept r) (min (depth (area r)) (suc (kept (area r)))) x u f₀ g₀ T₀ refl refl few-steps in
       let us : List Undo = take (depth r) (undoIn u ∷ tab (kept r) (λ j. undoIn (g₀ j))) in
       subst (Ends r (finish (objects r) r (changed 1 (objects r) 0 (blockFor new) (objects r + 1) (area r))))
       (sym (next-as (edit (add new))
       ∙ add-after (limit r) (depth r) (settings r) (objects r) f₀ _ _ new ask
-      ∙ ap (λ (b : List ℕ). settled (rules (limit r) (settings r)) (depth r) (tab (objects r + 1) (upd (objects r) b f₀)) (take (depth r) (off ∷ tab (kept r) (λ j. undoIn (g₀ j)))) (work (settings r) (tab (objects r + 1) (upd (objects r) b f₀)))) (sym ex)
-      ∙ ap (λ (y : Undo). settled (rules (limit r) (settings r)) (depth r) (tab (objects r + 1) (upd (objects r) x f₀)) (take (depth r) (y ∷ tab (kept r) (λ j. undoIn (g₀ j)))) (work (settings r) (tab (objects r + 1) (upd (objects r) x f₀)))) (sym (off-of u refl))))
+      ∙ ap (λ (b : List ℕ). settled (rules (limit r) (settings r)) (depth r) (tab (objects r + 1) (upd (objects r) b f₀))
+      (take (depth r) (off ∷ tab (kept r) (λ j. undoIn (g₀ j)))) (work (settings r) (tab (objects r + 1) (upd (objects r) b f₀)))) (sym ex)
+      ∙ ap (λ (y : Undo). settled (rules (limit r) (settings r)) (depth r) (tab (objects r + 1) (upd (objects r) x f₀))
+      (take (depth r) (y ∷ tab (kept r) (λ j. undoIn (g₀ j)))) (work (settings r) (tab (objects r + 1) (upd (objects r) x f₀)))) (sym (off-of u refl))))
       (change-ends (objects r) _ _
-      (settles (changed 1 (objects r) 0 (blockFor new) (objects r + 1) (area r)) (objects r + 1) (upd (objects r) x f₀) (min (depth (area r)) (suc (kept (area r)))) (ahead u g₀) us
+      (settles (changed 1 (objects r) 0 (blockFor new) (objects r + 1) (area r)) (objects r + 1) (upd (objects r) x f₀)
+      (min (depth (area r)) (suc (kept (area r)))) (ahead u g₀) us
       (omega arith) deep-steps O T (pushed-steps u)
       (λ w q. change-became (area r) (area-ready r h) 1 (objects r) 0 (blockFor new) (objects r + 1) nl₁ nl₂ fits w q)
       (λ q. change-refused (area r) (area-ready r h) 1 (objects r) 0 (blockFor new) (objects r + 1) nl₁ nl₂ fits q)))
@@ -377,7 +400,8 @@ module _ (r : List ℕ) (F : Formed r) where
       (λ b. add-goes new (rw same at (both-true (formed r) _ b .1)))
       (λ b. next-as (edit (add new)) ∙ add-none (limit r) (depth r) (settings r) (objects r) f₀ _ _ new (rw (F₁, same) at b))
 
-  became-as : (w x : List ℕ) (f g : ℕ → List ℕ) (n n′ i i′ k k′ : ℕ) → n ≡ n′ → i ≡ i′ → k ≡ k′ → Became (area r) w n (upd i x f) k g → Became (area r) w n′ (upd i′ x f) k′ g
+  became-as : (w x : List ℕ) (f g : ℕ → List ℕ) (n n′ i i′ k k′ : ℕ) → n ≡ n′ → i ≡ i′ → k ≡ k′ → Became (area r) w n (upd i x f) k g
+      → Became (area r) w n′ (upd i′ x f) k′ g
   became-as w x f g n n′ i i′ k k′ en ei ek b = rw (← en, ← ei, ← ek) b
 
   module _ (p : 0 < kept r) where
@@ -406,7 +430,8 @@ module _ (r : List ℕ) (F : Formed r) where
         let hi : numberOf (latest (area r)) < limit (area r) = omega (arith, a-limit, h .within, a .some, en) in
         let hn : left (area r) ≤ limit (area r) = omega (arith, a-limit, h .within, el) in
         let T = off-steps (objects r) (kept r - 1) f₀ g₀ steps (a .tag) .1 x in
-        let O = owned-off (objects r) (objects r - 1) f₀ (upd (objects r - 1) x f₀) O₀ (omega arith) (λ j q. sym (upd-other (objects r - 1) x f₀ j (λ z. absurd (omega arith)))) in
+        let O = owned-off (objects r) (objects r - 1) f₀ (upd (objects r - 1) x f₀) O₀ (omega arith)
+        (λ j q. sym (upd-other (objects r - 1) x f₀ j (λ z. absurd (omega arith)))) in
         subst (Ends r (finishUndo r (undone (area r))))
         (sym (next-as undo ∙ undo-off (limit r) (depth r) (settings r) (objects r) f₀ _ _ (latest (area r)) _ first (a .tag)))
         (undo-done _ _
@@ -427,7 +452,8 @@ module _ (r : List ℕ) (F : Formed r) where
         subst (Ends r (finishUndo r (undone (area r))))
         (sym (next-as undo ∙ undo-again (limit r) (depth r) (settings r) (objects r) f₀ _ _ (latest (area r)) _ first (a .tag) (a .number)))
         (undo-done _ _
-        (settles (undone (area r)) (objects r) (upd (numberOf (latest (area r))) x f₀) (kept r - 1) (λ j. g₀ (suc j)) (tab (kept r - 1) (λ j. undoIn (g₀ (suc j))))
+        (settles (undone (area r)) (objects r) (upd (numberOf (latest (area r))) x f₀) (kept r - 1) (λ j. g₀ (suc j))
+        (tab (kept r - 1) (λ j. undoIn (g₀ (suc j))))
         (h .within) (omega (arith, h .kept-within)) O T refl
         (λ w q. became-as w x f₀ (λ j. g₀ (suc j)) _ _ _ _ _ _ el refl k-is (undo-became (area r) (area-ready r h) p₁ hi hn w q))
         (λ q. refused-as (settings (area r)) x f₀ _ _ _ _ el refl (undo-refused (area r) (area-ready r h) p₁ hi hn q))))

@@ -85,7 +85,8 @@ module _ (u w : List ℕ) (ready : Ready w) (lu : length u ≡ 1186) where
           size = length-put (stepsAt (limit w)) u (shifted w) (omega arith) ∙ l;
           count =
               let m : min (depth w) (kept w + 1) ≡ min (depth w) (suc (kept w)) = omega arith in
-              byte-same 3 (putAt (stepsAt (limit w)) u (shifted w)) (shifted w) (part-put-before 3 1 (stepsAt (limit w)) u (shifted w) (omega arith) (omega arith))
+              byte-same 3 (putAt (stepsAt (limit w)) u (shifted w)) (shifted w)
+              (part-put-before 3 1 (stepsAt (limit w)) u (shifted w) (omega arith) (omega arith))
               ∙ moved-count _ _ _ w (omega arith) f
               ∙ m;
           first = λ q.

@@ -48,7 +48,15 @@ head-says r e =
 pub head-said : (r : List ℕ) → Head r → headOk r ≡ true
 unfolding headOk
 head-said r h =
-    simp (le-leb _ _ (h .long), le-leb _ _ (h .some-limit), le-leb _ _ (h .limit-64), le-leb _ _ (h .depth-64), le-leb _ _ (h .within), le-leb _ _ (h .kept-within), le-leb _ _ (h .room-enough))
+    simp (
+      le-leb _ _ (h .long),
+      le-leb _ _ (h .some-limit),
+      le-leb _ _ (h .limit-64),
+      le-leb _ _ (h .depth-64),
+      le-leb _ _ (h .within),
+      le-leb _ _ (h .kept-within),
+      le-leb _ _ (h .room-enough),
+    )
 
 pub head-no : (r : List ℕ) → (Head r → ⊥) → false ≡ headOk r
 head-no r f = sym (false-or (headOk r) (λ e. f (head-says r e)))

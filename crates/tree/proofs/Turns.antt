@@ -13,7 +13,8 @@ use Rattle.list.proofs.Tests.{both-true}
 use Rattle.tree.specs.Held.{blockOk, parentOf, kindOf}
 use Rattle.tree.specs.Room.{tagOf, numberOf, savedIn}
 use Rattle.tree.specs.Formed.{placed, standing, stepsOk}
-use Rattle.tree.proofs.Applied.{upd, upd-same, upd-other, ahead, Alike, alike-same, alike-upd, Adds, Again, step-facts, step-add, step-again, standing-add, standing-again, steps-same, steps-off, steps-on}
+use Rattle.tree.proofs.Applied.{upd, upd-same, upd-other, ahead, Alike, alike-same, alike-upd, Adds, Again, step-facts, step-add, step-again}
+use Rattle.tree.proofs.Applied.{standing-add, standing-again, steps-same, steps-off, steps-on}
 
 -- ---- a place under a parent
 

@@ -1,4 +1,5 @@
--- The definitions, computed: the formula and its bound, and the tree of document 01's script, where the worked parent is the root's own list and one container stands below it.
+-- The definitions, computed: the formula and its bound, and the tree of document 01's script, where the worked parent is the root's own list and one
+-- container stands below it.
 use mathlib.Core.Path.{_≡_, refl}
 use mathlib.Core.Bool.{true, false}
 use mathlib.Core.List.{List, [], _∷_, flatten}
@@ -23,6 +24,38 @@ use Rattle.tree.specs.Work.{computed}
 use Rattle.tree.specs.History.{bind}
 use Rattle.tree.specs.Replay.{fromRoot, gather, work}
 
+-- ---- what a computation of a tree opens, layer by layer: to unfold a name here is to unfold what its line names
+
+unfoldable pub bytes-open : Unit {0}
+unfolding le spell sameBytes guidAt part sidLen isSid placeholderOf identityOf flatten
+bytes-open = tt
+
+unfoldable pub entries-open : Unit {0}
+unfolding plainOf objectOf objectKind kindOk flagsOk headOf wordAfter entryBytes tailOk need entryOf
+entries-open = tt
+
+unfoldable pub lists-open : Unit {0}
+unfolding revOk headerOk cut entriesOf headBytes render onGood walkOf finish checkOf entriesIf typesOk typesOf
+lists-open = tt
+
+unfoldable pub copies-open : Unit {0}
+unfolding anyHeritable among typeApplies pass kept takesFirst firstPart takesSecond secondPart fromParent own fromCreator
+copies-open = tt
+
+unfoldable pub last-open : Unit {0}
+unfolding inPlace mapped resolved lastOf lastStep inheritedBit withCreator fromDefault branch resultOf
+last-open = tt
+
+unfoldable pub compute-open : Unit {0}
+unfolding anyObject withRoom needed onReading readable ruleOk computeOf bytesFor
+compute-open = tt
+
+unfoldable pub tree-open : Unit {0}
+unfolding bytesIn idIn idFor slotFor blockFor settingsFor computed bind fromRoot gather work
+tree-open = tt
+
+-- ---- a room's length
+
 -- the formula keeps document 01's bound
 pub bound : (n s : ℕ) → roomFor n s ≤ 2048 + 2400 * n + 1280 * s
 bound n s = omega arith
@@ -36,6 +69,8 @@ pub nothing : formed [] ≡ false
 unfolding formed headOk
 nothing = refl
 
+-- ---- the tree of document 01's script
+
 abbrev container : ℕ → Optional → New
 container parent list =
     record { parent = parent; container = true; mark = false; type = replicate 16 0; owner = system; group = system; list = list }
@@ -48,5 +83,5 @@ abbrev pub lists : List Optional
 lists = present (listed 0x1C 1 (inherited 0x03 ∷ [])) ∷ present (listed 0x30 2 (inherited 0x10 ∷ inherited 0x1B ∷ [])) ∷ []
 
 pub script-tree : work script (blockFor (container 0xFFFFFFFF (present (parentWith 0x03))) ∷ blockFor (container 0 absent) ∷ []) ≡ some lists
-unfolding le spell sameBytes guidAt part sidLen isSid placeholderOf identityOf plainOf objectOf objectKind kindOk flagsOk headOf wordAfter entryBytes tailOk need entryOf revOk headerOk cut entriesOf headBytes render onGood walkOf finish checkOf entriesIf typesOk typesOf anyHeritable among typeApplies pass kept takesFirst firstPart takesSecond secondPart fromParent own fromCreator inPlace mapped resolved lastOf lastStep inheritedBit withCreator fromDefault branch resultOf anyObject withRoom needed onReading readable ruleOk computeOf bytesFor bytesIn idIn idFor slotFor blockFor settingsFor computed bind fromRoot gather work flatten
+unfolding bytes-open entries-open lists-open copies-open last-open compute-open tree-open
 script-tree = refl

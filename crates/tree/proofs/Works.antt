@@ -31,10 +31,20 @@ given-lent true s = refl
 given-lent false s = refl
 
 -- the settings as the code finds them in slots and own data
-pub settings-found : (e p b : List ℕ) (x y z k m : Bool) → x ≡ hasList p → y ≡ hasList (ownSlot b) → z ≡ hasList (defaultSlot e) → k ≡ eqb (kindOf b) 1 → m ≡ eqb (markOf b) 1
+pub settings-found : (e p b : List ℕ) (x y z k m : Bool) → x ≡ hasList p → y ≡ hasList (ownSlot b) → z ≡ hasList (defaultSlot e) → k ≡ eqb (kindOf b) 1
+    → m ≡ eqb (markOf b) 1
     → _≡_ {A = Settings} (record { parent = x; creator = y; default = z; container = k; auto = true; defaulted = false; protect = m }) (settingsIn e (held p) b)
 settings-found e p b x y z k m ex ey ez ek em =
-    rw (ex, ey, ez, ek, em, given-lent (hasList p) (bytesIn p), given-lent (hasList (ownSlot b)) (bytesIn (ownSlot b)), given-lent (hasList (defaultSlot e)) (bytesIn (defaultSlot e)))
+    rw (
+      ex,
+      ey,
+      ez,
+      ek,
+      em,
+      given-lent (hasList p) (bytesIn p),
+      given-lent (hasList (ownSlot b)) (bytesIn (ownSlot b)),
+      given-lent (hasList (defaultSlot e)) (bytesIn (defaultSlot e)),
+    )
     refl
 
 -- the masks
@@ -63,15 +73,19 @@ module _ (e p b : List ℕ) where
   qd : lent (given (defaultOf e)) (bytesIn (defaultSlot e)) ≡ defaultOf e
   qd = lent-held (hasList (defaultSlot e)) (bytesIn (defaultSlot e))
 
-  answer-held : (room : ℕ) → answerFor (ruleOf e) (settingsIn e (held p) b) (mappingOf e) (bytesIn p) (bytesIn (ownSlot b)) (bytesIn (defaultSlot e)) (typeOf b) (ownerOf b) (groupOf b) room
+  answer-held : (room : ℕ)
+      → answerFor (ruleOf e) (settingsIn e (held p) b) (mappingOf e) (bytesIn p) (bytesIn (ownSlot b)) (bytesIn (defaultSlot e))
+      (typeOf b) (ownerOf b) (groupOf b) room
       ≡ answerIn e (held p) b room
   unfolding S G
   answer-held room =
-      ap (λ (x : Optional). computeOf S G (typeOf b) x (lent (given (ownList b)) (bytesIn (ownSlot b))) (lent (given (defaultOf e)) (bytesIn (defaultSlot e))) room) qp
+      ap (λ (x : Optional). computeOf S G (typeOf b) x (lent (given (ownList b)) (bytesIn (ownSlot b)))
+      (lent (given (defaultOf e)) (bytesIn (defaultSlot e))) room) qp
       ∙ ap (λ (x : Optional). computeOf S G (typeOf b) (held p) x (lent (given (defaultOf e)) (bytesIn (defaultSlot e))) room) qc
       ∙ ap (λ (x : Optional). computeOf S G (typeOf b) (held p) (ownList b) x room) qd
 
-  result-held : resultFor (ruleOf e) (settingsIn e (held p) b) (mappingOf e) (bytesIn p) (bytesIn (ownSlot b)) (bytesIn (defaultSlot e)) (typeOf b) (ownerOf b) (groupOf b)
+  result-held : resultFor (ruleOf e) (settingsIn e (held p) b) (mappingOf e) (bytesIn p) (bytesIn (ownSlot b)) (bytesIn (defaultSlot e)) (typeOf b)
+      (ownerOf b) (groupOf b)
       ≡ resultIn e (held p) b
   unfolding S G
   result-held =
@@ -86,9 +100,13 @@ module _ (e p b : List ℕ) where
       → r ≡ answerFor rule s m P C D types owner group (length out) → out₁ ≡ outFor rule s m P C D types owner group out
       → (r ≡ answerIn e (held p) b (length out)) × (out₁ ≡ outBy r (bytesFor (resultIn e (held p) b)) out)
   compute-found rule s m P C D types owner group out out₁ r er es em ep ec ed et eo eg h f =
-      let a : answerFor rule s m P C D types owner group (length out) ≡ answerIn e (held p) b (length out) = rw (er, es, em, ep, ec, ed, et, eo, eg) (answer-held (length out)) in
-      let y : resultFor rule s m P C D types owner group ≡ resultIn e (held p) b = rw (er, es, em, ep, ec, ed, et, eo, eg) result-held in
-      (h ∙ a, f ∙ ap (λ (x : Computed). outBy x (bytesFor (resultFor rule s m P C D types owner group)) out) (sym h) ∙ ap (λ (x : Result). outBy r (bytesFor x) out) y)
+      let a : answerFor rule s m P C D types owner group (length out) ≡ answerIn e (held p) b (length out) =
+      rw (er, es, em, ep, ec, ed, et, eo, eg) (answer-held (length out)) in
+      let y : resultFor rule s m P C D types owner group ≡ resultIn e (held p) b = rw (er, es, em, ep, ec, ed, et, eo, eg) result-held in (
+        h ∙ a,
+        f ∙ ap (λ (x : Computed). outBy x (bytesFor (resultFor rule s m P C D types owner group)) out) (sym h)
+            ∙ ap (λ (x : Result). outBy r (bytesFor x) out) y,
+      )
 
 -- the parent's slot, or nothing
 pub above-slot : (i p : ℕ) (r s : List ℕ) → p ≡ parentOf (own i r) → p < i → s ≡ slot p r → held s ≡ above i r
@@ -105,7 +123,8 @@ module _ (i : ℕ) (w out e b : List ℕ) (x : Optional) (a : Computed) (q : x �
   answered : (y : Computed) → a ≡ y → answerIn (settings w) x (own i w) 1024 ≡ y
   answered y g = rw (← room, ← ee, ← eb) (sym h ∙ g)
 
-  left-out : (out₁ : List ℕ) (y : Computed) → a ≡ y → out₁ ≡ outBy a (bytesFor (resultIn e x b)) out → out₁ ≡ outBy y (bytesFor (resultIn (settings w) x (own i w))) out
+  left-out : (out₁ : List ℕ) (y : Computed) → a ≡ y → out₁ ≡ outBy a (bytesFor (resultIn e x b)) out
+      → out₁ ≡ outBy y (bytesFor (resultIn (settings w) x (own i w))) out
   left-out out₁ y g f = rw (← ee, ← eb, ← g) f
 
   pub rework-present : (l n k : ℕ) (out₁ w₁ : List ℕ) → a ≡ Present l n k → out₁ ≡ outBy a (bytesFor (resultIn e x b)) out
@@ -114,7 +133,8 @@ module _ (i : ℕ) (w out e b : List ℕ) (x : Optional) (a : Computed) (q : x �
   unfolding rework computed laid isSome orElse outBy part
   rework-present l n k out₁ w₁ g f t =
       let y : answerIn (settings w) x (own i w) 1024 ≡ Present l n k = answered (Present l n k) g in
-      let z = present-fits (settingsIn (settings w) x (own i w)) (givenIn (settings w) x (own i w)) (typeOf (own i w)) x (ownList (own i w)) (defaultOf (settings w)) 1024 l n k y in
+      let z = present-fits (settingsIn (settings w) x (own i w)) (givenIn (settings w) x (own i w)) (typeOf (own i w)) x (ownList (own i w))
+      (defaultOf (settings w)) 1024 l n k y in
       let bytes = bytesFor (resultIn (settings w) x (own i w)) in
       let o : out₁ ≡ outBy (Present l n k) bytes out = left-out out₁ (Present l n k) g f in
       let u : part 0 l out₁ ≡ bytes = rw o (take-at bytes (drop (length bytes) out) l (sym (z .0))) in

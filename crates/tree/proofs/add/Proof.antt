@@ -27,7 +27,9 @@ same-length-2 : tie.Need-same-length-2
 same-length-2 c = search needs
 
 returns-2 : tie.Need-returns-2
-returns-2 c = add-list _ _ _ (c .before .before .before .before .add-fault .ensures) (c .before .before .before .if1 .left) _ (c .before .before .fault-of .ensures) (c .if2 .taken)
+returns-2 c =
+    let f = c .before .before in
+    add-list _ _ _ (f .before .before .add-fault .ensures) (f .before .if1 .left) _ (f .fault-of .ensures) (c .if2 .taken)
 
 ordinary-requires : tie.Need-ordinary-requires
 ordinary-requires c κs = search needs
@@ -41,7 +43,8 @@ same-length-3 c = search needs
 returns-3 : tie.Need-returns-3
 returns-3 c =
     let f = c .before .before .before .before .before in
-    add-owner _ _ _ (f .before .before .add-fault .ensures) (f .before .if1 .left) _ (f .fault-of .ensures) (c .before .before .before .if2 .left) _ (refused (c .before .before .ordinary .ensures) (c .before .if3 .taken)) (c .refused2 .ensures)
+    add-owner _ _ _ (f .before .before .add-fault .ensures) (f .before .if1 .left) _ (f .fault-of .ensures) (c .before .before .before .if2 .left) _
+    (refused (c .before .before .ordinary .ensures) (c .before .if3 .taken)) (c .refused2 .ensures)
 
 ordinary-requires-2 : tie.Need-ordinary-requires-2
 ordinary-requires-2 c κs = search needs
@@ -56,8 +59,9 @@ returns-4 : tie.Need-returns-4
 returns-4 c =
     let o = c .before .before .before .before in
     let f = o .before .before .before in
-    add-group _ _ _ (f .before .before .add-fault .ensures) (f .before .if1 .left) _ (f .fault-of .ensures) (o .before .if2 .left) (passed (o .ordinary .ensures) (c .before .before .before .if3 .left)) _
-    (refused (c .before .before .ordinary2 .ensures) (c .before .if4 .taken)) (c .refused3 .ensures)
+    add-group _ _ _ (f .before .before .add-fault .ensures) (f .before .if1 .left) _ (f .fault-of .ensures) (o .before .if2 .left)
+    (passed (o .ordinary .ensures) (c .before .before .before .if3 .left)) _ (refused (c .before .before .ordinary2 .ensures) (c .before .if4 .taken))
+    (c .refused3 .ensures)
 
 short-requires : tie.Need-short-requires
 short-requires c κs = search needs
@@ -74,7 +78,8 @@ returns-5 c =
     let o = g .before .before in
     let f = o .before .before .before in
     add-long _ _ _ (f .before .before .add-fault .ensures) (f .before .if1 .left) _ (f .fault-of .ensures) (o .before .if2 .left)
-    (passed (o .ordinary .ensures) (g .before .if3 .left)) (passed (g .ordinary2 .ensures) (c .before .before .before .if4 .left)) _ (refused (c .before .before .short .ensures) (c .before .if5 .taken)) (c .refused4 .ensures)
+    (passed (o .ordinary .ensures) (g .before .if3 .left)) (passed (g .ordinary2 .ensures) (c .before .before .before .if4 .left)) _
+    (refused (c .before .before .short .ensures) (c .before .if5 .taken)) (c .refused4 .ensures)
 
 number-in-requires : tie.Need-number-in-requires
 number-in-requires c κs = search needs
@@ -87,7 +92,9 @@ lay-new-requires c κs =
     let s = c .before .before .before .before in
     let g = s .before .before in
     let o = g .before .before in
-    (ordinary-most _ (passed (o .ordinary .ensures) (g .before .if3 .left)), (ordinary-most _ (passed (g .ordinary2 .ensures) (s .before .if4 .left)), (passed (s .short .ensures) (c .before .before .before .if5 .left), refl)))
+    let owner-ok = passed (o .ordinary .ensures) (g .before .if3 .left) in
+    let group-ok = passed (g .ordinary2 .ensures) (s .before .if4 .left) in
+    (ordinary-most _ owner-ok, (ordinary-most _ group-ok, (passed (s .short .ensures) (c .before .before .before .if5 .left), refl)))
 
 slice-aggregate-change : tie.Need-slice-aggregate-change
 slice-aggregate-change c = search needs
@@ -98,8 +105,8 @@ add-change c = search needs
 change-requires : tie.Need-change-requires
 change-requires c κs =
     let n = c .before .before .before .before .before in
-    let k = n .before .before .before .before .before .before .before .before .before .before .before .before in
-    let f = add-asks _ _ _ _ (k .add-fault .ensures) (n .before .before .before .before .before .before .before .before .before .before .before .if1 .left) (n .number-in .ensures .0) in
+    let fine = n .before .before .before .before .before .before .before .before .before .before .before in
+    let f = add-asks _ _ _ _ (fine .before .add-fault .ensures) (fine .if1 .left) (n .number-in .ensures .0) in
     (f .0, (f .1 .0, (f .1 .1, omega (arith, c .before .before .before .lay-new .kept .0))))
 
 same-length-6 : tie.Need-same-length-6
@@ -113,7 +120,8 @@ returns-6 c =
     let o = g .before .before in
     let f = o .before .before .before in
     add-done _ _ _ (f .before .before .add-fault .ensures) (f .before .if1 .left) _ (f .fault-of .ensures) (o .before .if2 .left)
-    (passed (o .ordinary .ensures) (g .before .if3 .left)) (passed (g .ordinary2 .ensures) (s .before .if4 .left)) _ _ _ _ (passed (s .short .ensures) (n .before .before .if5 .left))
+    (passed (o .ordinary .ensures) (g .before .if3 .left)) (passed (g .ordinary2 .ensures) (s .before .if4 .left)) _ _ _ _
+    (passed (s .short .ensures) (n .before .before .if5 .left))
     (n .number-in .ensures .0) (c .before .before .before .before .before .before .lay-new .ensures) (c .before .before .change .ensures)
 
 pub add-spec : {M : Type 1} → statement M

@@ -46,7 +46,8 @@ returns-2 c =
     let o = g .before .before in
     let a = o .before .before .before .before .before .args in
     settle
-    (on-object-good (now (a .room)) (a .object) _ _ (good (o .before)) ∙ ap (λ (x : List ℕ). copied (Done (length (dataOf x)) true 0) (dataOf x) (now (a .out))) (sym (o .own .ensures)))
+    (on-object-good (now (a .room)) (a .object) _ _ (good (o .before))
+    ∙ ap (λ (x : List ℕ). copied (Done (length (dataOf x)) true 0) (dataOf x) (now (a .out))) (sym (o .own .ensures)))
     (g .give-data .ensures .0) (g .give-data .ensures .1)
 
 pub data-of-spec : {M : Type 1} → statement M

@@ -49,7 +49,8 @@ returns c =
     let l = c .before .before .before .before .before .before in
     let s = l .before .before .before .before in
     let a = s .args in
-    empty-laid (a .objects) (a .steps) (a .rule) (a .m) _ (now (a .r)) _ _ (s .pre .1 .1 .0) (s .pre .1 .1 .1) (l .lay-settings .ensures) (c .before .before .zero .ensures)
+    empty-laid (a .objects) (a .steps) (a .rule) (a .m) _ (now (a .r)) _ _ (s .pre .1 .1 .0) (s .pre .1 .1 .1)
+    (l .lay-settings .ensures) (c .before .before .zero .ensures)
 
 pub empty-spec : {M : Type 1} → statement M
 empty-spec =

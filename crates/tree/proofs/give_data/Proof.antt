@@ -59,7 +59,9 @@ part-of-requires-3 : tie.Need-part-of-requires-3
 part-of-requires-3 c κs = search needs
 
 lay-requires : tie.Need-lay-requires
-lay-requires c κs = omega (arith, ap length (c .part-of3 .ensures), part-most 0 19 (now (c .before .before .before .before .before .before .before .before .before .args .b)))
+lay-requires c κs =
+    let a = c .before .before .before .before .before .before .before .before .before .args in
+    omega (arith, ap length (c .part-of3 .ensures), part-most 0 19 (now (a .b)))
 
 cast-out : tie.Need-cast-out
 cast-out c = omega (arith, owner-few (c .before .before .before .before .before .before .before .before))
@@ -83,7 +85,9 @@ add-lay : tie.Need-add-lay
 add-lay c = search needs
 
 lay-requires-3 : tie.Need-lay-requires-3
-lay-requires-3 c κs = simp length-set (omega (arith, simp length-set at (c .before .before .before .lay2 .kept .0), c .before .before .before .before .before .before .before .lay .kept .0))
+lay-requires-3 c κs =
+    let two = c .before .before .before in
+    simp length-set (omega (arith, simp length-set at (two .lay2 .kept .0), two .before .before .before .before .lay .kept .0))
 
 add-t10 : tie.Need-add-t10
 add-t10 c = search needs
@@ -92,10 +96,16 @@ add-t9 : tie.Need-add-t9
 add-t9 c = search needs
 
 cast-t24 : tie.Need-cast-t24
-cast-t24 c = omega (arith, owner-few (c .before .before .before .before .before .before .before .before .before .before .before .before .before .before .before .before), group-few (c .before .before .before .before .before .before .before .before .before .before .before .before .before .before))
+cast-t24 c =
+    let one = c .before .before .before .before .before .before .before .before .before .before in
+    let g = one .before .before .before .before in
+    omega (arith, owner-few (g .before .before), group-few g)
 
 same-length : tie.Need-same-length
-same-length c = omega (arith, simp length-set at (c .before .before .lay3 .kept .0), simp length-set at (c .before .before .before .before .before .before .lay2 .kept .0), c .before .before .before .before .before .before .before .before .before .before .lay .kept .0)
+same-length c =
+    let three = c .before .before in
+    let two = three .before .before .before .before in
+    omega (arith, simp length-set at (three .lay3 .kept .0), simp length-set at (two .lay2 .kept .0), two .before .before .before .before .lay .kept .0)
 
 returns-2 : tie.Need-returns-2
 returns-2 c =
@@ -109,7 +119,8 @@ returns-2 c =
     let s = g .before .before .before .before .before .before in
     let l = data-length (now (s .args .b)) _ _ _ (s .pre) p eo eg in
     settle (copied-all _ (dataOf (now (s .args .b))) _ (omega arith)) (ap {B = Answer} (λ (n : ℕ). Done n true 0) l)
-    (data-laid (now (s .args .b)) _ _ _ (s .pre) p eo eg (now (s .args .out)) _ _ _ (omega arith) (one .lay .ensures) (two .lay2 .ensures) (three .lay3 .ensures))
+    (data-laid (now (s .args .b)) _ _ _ (s .pre) p eo eg (now (s .args .out)) _ _ _ (omega arith)
+    (one .lay .ensures) (two .lay2 .ensures) (three .lay3 .ensures))
 
 pub give-data-spec : {M : Type 1} → statement M
 give-data-spec =

@@ -43,7 +43,8 @@ returns-2 c =
     let s = g .before .before in
     let a = s .before .before .before .before .before .args in
     settle
-    (on-object-good (now (a .room)) (a .object) _ _ (good (s .before)) ∙ ap (λ (x : List ℕ). copied (told (held x)) (bytesIf (held x)) (now (a .out))) (sym (s .slot .ensures)))
+    (on-object-good (now (a .room)) (a .object) _ _ (good (s .before))
+    ∙ ap (λ (x : List ℕ). copied (told (held x)) (bytesIf (held x)) (now (a .out))) (sym (s .slot .ensures)))
     (g .give-list .ensures .0) (g .give-list .ensures .1)
 
 pub list-of-spec : {M : Type 1} → statement M

@@ -48,7 +48,9 @@ returns-2 c =
     let o = p .before in
     let a = o .before .before .before .before .before .args in
     let e = p .part-of .ensures ∙ ap (part 157 1027) (o .own .ensures) in
-    settle (on-object-good (now (a .room)) (a .object) _ _ (good (o .before)) ∙ ap (λ (x : List ℕ). copied (told (held x)) (bytesIf (held x)) (now (a .out))) (sym e))
+    settle
+    (on-object-good (now (a .room)) (a .object) _ _ (good (o .before))
+    ∙ ap (λ (x : List ℕ). copied (told (held x)) (bytesIf (held x)) (now (a .out))) (sym e))
     (g .give-list .ensures .0) (g .give-list .ensures .1)
 
 pub own-of-spec : {M : Type 1} → statement M

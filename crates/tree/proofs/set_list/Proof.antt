@@ -28,7 +28,10 @@ same-length-2 : tie.Need-same-length-2
 same-length-2 c = search needs
 
 returns-2 : tie.Need-returns-2
-returns-2 c = alter-refused _ _ _ _ (c .before .before .before .before .object-fault .ensures) (c .before .before .before .if1 .left) _ _ _ _ (list-fails _ _ _ (c .before .before .fault-of .ensures) (c .if2 .taken)) refl
+returns-2 c =
+    let f = c .before .before in
+    alter-refused _ _ _ _ (f .before .before .object-fault .ensures) (f .before .if1 .left) _ _ _ _
+    (list-fails _ _ _ (f .fault-of .ensures) (c .if2 .taken)) refl
 
 short-requires : tie.Need-short-requires
 short-requires c κs = search needs
@@ -43,7 +46,8 @@ returns-3 : tie.Need-returns-3
 returns-3 c =
     let f = c .before .before .before .before .before in
     alter-refused _ _ _ _ (f .before .before .object-fault .ensures) (f .before .if1 .left) _ _ _ _
-    (long-fails _ _ _ (f .fault-of .ensures) (c .before .before .before .if2 .left) (refused (c .before .before .short .ensures) (c .before .if3 .taken))) (c .refused2 .ensures)
+    (long-fails _ _ _ (f .fault-of .ensures) (c .before .before .before .if2 .left) (refused (c .before .before .short .ensures) (c .before .if3 .taken)))
+    (c .refused2 .ensures)
 
 number-in-requires : tie.Need-number-in-requires
 number-in-requires c κs = search needs
@@ -73,7 +77,8 @@ returns-4 c =
     let n = c .before .before .before .before .before .before .before .before in
     let f = n .before .before .before .before .before .before in
     let s = passed (n .before .before .before .short .ensures) (n .before .before .if3 .left) in
-    alter-done _ _ _ _ (f .before .before .object-fault .ensures) (f .before .if1 .left) _ _ _ _ _ (list-passes _ _ _ (f .fault-of .ensures) (n .before .before .before .before .if2 .left) s) (n .number-in .ensures .0) refl
+    alter-done _ _ _ _ (f .before .before .object-fault .ensures) (f .before .if1 .left) _ _ _ _ _
+    (list-passes _ _ _ (f .fault-of .ensures) (n .before .before .before .before .if2 .left) s) (n .number-in .ensures .0) refl
     (filled 1027 _ _ _ (length-slot _ s) refl (c .before .before .before .before .before .before .lay-slot .ensures)) (c .before .before .change .ensures)
 
 pub set-list-spec : {M : Type 1} → statement M

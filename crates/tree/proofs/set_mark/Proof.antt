@@ -41,7 +41,8 @@ returns-2 : tie.Need-returns-2
 unfolding editAt editBytes
 returns-2 c =
     let n = c .before .before .before .before .before .before in
-    alter-done _ _ _ _ (n .before .before .before .object-fault .ensures) (n .before .before .if1 .left) _ _ _ _ _ (mark-passes _ _) (n .number-in .ensures .0) refl (rw (c .before .before .before .before .before .bit .ensures)) (c .before .before .change .ensures)
+    alter-done _ _ _ _ (n .before .before .before .object-fault .ensures) (n .before .before .if1 .left) _ _ _ _ _ (mark-passes _ _)
+    (n .number-in .ensures .0) refl (rw (c .before .before .before .before .before .bit .ensures)) (c .before .before .change .ensures)
 
 pub set-mark-spec : {M : Type 1} → statement M
 set-mark-spec =

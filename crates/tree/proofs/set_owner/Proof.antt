@@ -33,7 +33,9 @@ same-length-2 c = search needs
 
 returns-2 : tie.Need-returns-2
 returns-2 c =
-    alter-refused _ _ _ _ (c .before .before .before .before .object-fault .ensures) (c .before .before .before .if1 .left) _ _ _ _ (owner-fails _ _ _ (refused (c .before .before .ordinary .ensures) (c .before .if2 .taken))) (c .refused2 .ensures)
+    let o = c .before .before in
+    alter-refused _ _ _ _ (o .before .before .object-fault .ensures) (o .before .if1 .left) _ _ _ _
+    (owner-fails _ _ _ (refused (o .ordinary .ensures) (c .before .if2 .taken))) (c .refused2 .ensures)
 
 ordinary-requires-2 : tie.Need-ordinary-requires-2
 ordinary-requires-2 c κs = search needs
@@ -48,7 +50,9 @@ returns-3 : tie.Need-returns-3
 returns-3 c =
     let o = c .before .before .before .before in
     alter-refused _ _ _ _ (o .before .before .object-fault .ensures) (o .before .if1 .left) _ _ _ _
-    (group-fails _ _ _ (passed (o .ordinary .ensures) (c .before .before .before .if2 .left)) (refused (c .before .before .ordinary2 .ensures) (c .before .if3 .taken))) (c .refused3 .ensures)
+    (group-fails _ _ _ (passed (o .ordinary .ensures) (c .before .before .before .if2 .left))
+    (refused (c .before .before .ordinary2 .ensures) (c .before .if3 .taken)))
+    (c .refused3 .ensures)
 
 number-in-requires : tie.Need-number-in-requires
 number-in-requires c κs = search needs
@@ -59,7 +63,9 @@ slice-aggregate-lay-owners c = search needs
 lay-owners-requires : tie.Need-lay-owners-requires
 lay-owners-requires c κs =
     let g = c .before .before .before .before in
-    (ordinary-most _ (passed (g .before .before .ordinary .ensures) (g .before .if2 .left)), (ordinary-most _ (passed (g .ordinary2 .ensures) (c .before .before .before .if3 .left)), omega arith))
+    let owner-ok = passed (g .before .before .ordinary .ensures) (g .before .if2 .left) in
+    let group-ok = passed (g .ordinary2 .ensures) (c .before .before .before .if3 .left) in
+    (ordinary-most _ owner-ok, (ordinary-most _ group-ok, omega arith))
 
 slice-aggregate-change : tie.Need-slice-aggregate-change
 slice-aggregate-change c = search needs
@@ -83,7 +89,8 @@ returns-4 c =
     let g = passed (s .ordinary2 .ensures) (n .before .before .if3 .left) in
     let o = passed (s .before .before .ordinary .ensures) (s .before .if2 .left) in
     alter-done _ _ _ _ (k .object-fault .ensures) (s .before .before .before .if1 .left) _ _ _ _ _ (owners-pass _ _ _ o g) (n .number-in .ensures .0) refl
-    (filled 138 _ _ _ (length-ids _ _ (ordinary-most _ o) (ordinary-most _ g)) refl (c .before .before .before .before .before .before .lay-owners .ensures)) (c .before .before .change .ensures)
+    (filled 138 _ _ _ (length-ids _ _ (ordinary-most _ o) (ordinary-most _ g)) refl (c .before .before .before .before .before .before .lay-owners .ensures))
+    (c .before .before .change .ensures)
 
 pub set-owner-spec : {M : Type 1} → statement M
 set-owner-spec =

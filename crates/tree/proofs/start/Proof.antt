@@ -16,13 +16,16 @@ use Rattle.tree.proofs.Answered.{settle, need-yes, need-no, readable-go
 use Rattle.tree.proofs.start.Statement.{statement}
 use Rattle.tree.proofs.start.Tie as tie
 
-ok-yes : (c : tie.Else1) → startOk (c .before .before .before .before .args .objects) (c .before .before .before .before .args .steps) (c .before .before .before .before .args .rule) (length (now (c .before .before .before .before .args .room))) ≡ true
+ok-yes : (c : tie.Else1)
+    → let a = c .before .before .before .before .args in startOk (a .objects) (a .steps) (a .rule) (length (now (a .room))) ≡ true
 ok-yes c = passed (c .before .start-ok .ensures) (c .if1 .left)
 
-list-yes : (c : tie.Else2) → faultOf (lent (c .before .before .before .before .before .before .before .args .has) (now (c .before .before .before .before .before .before .before .args .default))) .number ≡ 0
+list-yes : (c : tie.Else2)
+    → let a = c .before .before .before .before .before .before .before .args in faultOf (lent (a .has) (now (a .default))) .number ≡ 0
 list-yes c = sym (ap (λ (x : Fault). x .number) (c .before .before .fault-of .ensures)) ∙ c .if2 .left
 
-short-yes : (c : tie.Else3) → short (lent (c .before .before .before .before .before .before .before .before .before .args .has) (now (c .before .before .before .before .before .before .before .before .before .args .default))) ≡ true
+short-yes : (c : tie.Else3)
+    → let a = c .before .before .before .before .before .before .before .before .before .args in short (lent (a .has) (now (a .default))) ≡ true
 short-yes c = passed (c .before .short .ensures) (c .if3 .left)
 
 start-ok-requires : tie.Need-start-ok-requires
@@ -54,7 +57,11 @@ refused-requires-2 c κs = search needs
 returns-3 : tie.Need-returns-3
 unfolding startTo
 returns-3 c =
-    settle (need-yes 12 _ _ (ok-yes (c .before .before .before .before .before .before)) ∙ readable-good _ 3 _ _ (list-yes (c .before .before .before)) ∙ need-no 8 _ _ (refused (c .before .before .short .ensures) (c .before .if3 .taken)))
+    let l = c .before .before .before in
+    settle
+    (need-yes 12 _ _ (ok-yes (l .before .before .before))
+    ∙ readable-good _ 3 _ _ (list-yes l)
+    ∙ need-no 8 _ _ (refused (c .before .before .short .ensures) (c .before .if3 .taken)))
     (c .refused2 .ensures) refl
 
 cast-empty : tie.Need-cast-empty
@@ -74,7 +81,9 @@ same-length c = search needs
 returns-4 : tie.Need-returns-4
 unfolding startTo
 returns-4 c =
-    settle (need-yes 12 _ _ (ok-yes (c .before .before .before .before .before .before .before .before .before .before)) ∙ readable-good _ 3 _ _ (list-yes (c .before .before .before .before .before .before .before)) ∙ need-yes 8 _ _ (short-yes (c .before .before .before .before .before)))
+    let s = c .before .before .before .before .before in
+    let l = s .before .before in
+    settle (need-yes 12 _ _ (ok-yes (l .before .before .before)) ∙ readable-good _ 3 _ _ (list-yes l) ∙ need-yes 8 _ _ (short-yes s))
     (c .zeros .ensures) (c .before .before .before .empty .ensures)
 
 pub start-spec : {M : Type 1} → statement M

@@ -29,7 +29,8 @@ same-length-2 c = search needs
 returns-2 : tie.Need-returns-2
 returns-2 c =
     let f = c .before .before .before .before .before in
-    undo-11 _ _ (passed (f .formed .ensures) (c .before .before .before .before .if1 .left)) (c .before .before .number-in .ensures .0) _ (c .before .if2 .taken) (c .refused2 .ensures)
+    undo-11 _ _ (passed (f .formed .ensures) (c .before .before .before .before .if1 .left)) (c .before .before .number-in .ensures .0) _
+    (c .before .if2 .taken) (c .refused2 .ensures)
 
 take-back-requires : tie.Need-take-back-requires
 take-back-requires c κs =
@@ -42,7 +43,8 @@ same-length-3 c = search needs
 returns-3 : tie.Need-returns-3
 returns-3 c =
     let n = c .before .before .before .before .before in
-    undo-done _ _ (passed (n .before .before .before .formed .ensures) (n .before .before .if1 .left)) (n .number-in .ensures .0) (c .before .before .before .before .if2 .left) _ _ (c .before .before .take-back .ensures)
+    undo-done _ _ (passed (n .before .before .before .formed .ensures) (n .before .before .if1 .left)) (n .number-in .ensures .0)
+    (c .before .before .before .before .if2 .left) _ _ (c .before .before .take-back .ensures)
 
 pub undo-spec : {M : Type 1} → statement M
 undo-spec =

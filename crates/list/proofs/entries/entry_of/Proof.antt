@@ -10,7 +10,7 @@ use Rattle.list.proofs.Cases.{bad-a, bad-a2, bad-b, bad-c}
 use Rattle.list.proofs.entries.entry_of.Statement.{statement}
 use Rattle.list.proofs.entries.entry_of.Tie as tie
 
-kind-yes : (c : tie.Else3) → kindOk access (kindOf (now (c .before .before .before .before .before .before .before .args .t))) (c .before .before .before .before .before .before .before .args .rev) ≡ true
+kind-yes : (c : tie.Else3) → let a = c .before .before .before .before .before .before .before .args in kindOk access (kindOf (now (a .t))) (a .rev) ≡ true
 kind-yes c = sym (c .before .kind-ok .ensures) ∙ not-false _ (c .if3 .left)
 
 returns : tie.Need-returns

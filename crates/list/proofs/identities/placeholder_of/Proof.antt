@@ -31,7 +31,8 @@ returns-2 : tie.Need-returns-2
 unfolding placeholderOf
 returns-2 c =
     let s = now (c .before .before .before .before .before .before .args .s) in
-    let o : sameBytes s (creator 0) ≡ true = whole s (creator 0) (c .before .before .before .before .if1 .left) _ (c .before .same-twelve .ensures) ∙ c .if2 .taken in
+    let e = c .before .before .before .before .if1 .left in
+    let o : sameBytes s (creator 0) ≡ true = whole s (creator 0) e _ (c .before .same-twelve .ensures) ∙ c .if2 .taken in
     simp o
 
 slice-aggregate-same-twelve-2 : tie.Need-slice-aggregate-same-twelve-2
@@ -43,18 +44,20 @@ same-twelve-requires-2 c κs = search needs
 returns-3 : tie.Need-returns-3
 unfolding placeholderOf
 returns-3 c =
-    let s = now (c .before .before .before .before .before .before .before .before .before .before .args .s) in
-    let e = c .before .before .before .before .before .before .before .before .if1 .left in
-    let o : sameBytes s (creator 0) ≡ false = whole s (creator 0) e _ (c .before .before .before .before .before .same-twelve .ensures) ∙ c .before .before .before .before .if2 .left in
+    let p = c .before .before .before .before in
+    let s = now (p .before .before .before .before .before .before .args .s) in
+    let e = p .before .before .before .before .if1 .left in
+    let o : sameBytes s (creator 0) ≡ false = whole s (creator 0) e _ (p .before .same-twelve .ensures) ∙ p .if2 .left in
     let g : sameBytes s (creator 1) ≡ true = whole s (creator 1) e _ (c .before .same-twelve2 .ensures) ∙ c .if3 .taken in
     simp (o, g)
 
 returns-4 : tie.Need-returns-4
 unfolding placeholderOf
 returns-4 c =
-    let s = now (c .before .before .before .before .before .before .before .before .before .before .args .s) in
-    let e = c .before .before .before .before .before .before .before .before .if1 .left in
-    let o : sameBytes s (creator 0) ≡ false = whole s (creator 0) e _ (c .before .before .before .before .before .same-twelve .ensures) ∙ c .before .before .before .before .if2 .left in
+    let p = c .before .before .before .before in
+    let s = now (p .before .before .before .before .before .before .args .s) in
+    let e = p .before .before .before .before .if1 .left in
+    let o : sameBytes s (creator 0) ≡ false = whole s (creator 0) e _ (p .before .same-twelve .ensures) ∙ p .if2 .left in
     let g : sameBytes s (creator 1) ≡ false = whole s (creator 1) e _ (c .before .same-twelve2 .ensures) ∙ c .if3 .left in
     simp (o, g)
 

@@ -45,12 +45,15 @@ returns-3 c =
 
 returns-4 : tie.Need-returns-4
 returns-4 c =
-    let st = c .before .before .before .before .before .before .before .before .before .before .before in
+    let two = c .before .before .before in
+    let three = two .before .before .before in
+    let known = three .before .before .before in
+    let st = known .before .before in
     sym (words-same (now (st .args .a)) (now (st .args .b)) (st .pre .0) (st .pre .1)
-    (λ i. c .before .before .before .before .before .before .before .before .before .before .shared-slice-known .given i .fits) (λ i. c .before .before .before .before .before .before .before .before .before .shared-slice-known2 .given i .fits)
+    (λ i. known .before .shared-slice-known .given i .fits) (λ i. known .shared-slice-known2 .given i .fits)
     (sym (c .before .before .word-at5 .ensures) ∙ c .if3 .left ∙ c .before .word-at6 .ensures)
-    (sym (c .before .before .before .before .before .word-at3 .ensures) ∙ c .before .before .before .if2 .left ∙ c .before .before .before .before .word-at4 .ensures)
-    (sym (c .before .before .before .before .before .before .before .before .word-at .ensures) ∙ c .before .before .before .before .before .before .if1 .left ∙ c .before .before .before .before .before .before .before .word-at2 .ensures))
+    (sym (two .before .before .word-at3 .ensures) ∙ two .if2 .left ∙ two .before .word-at4 .ensures)
+    (sym (three .before .before .word-at .ensures) ∙ three .if1 .left ∙ three .before .word-at2 .ensures))
 
 pub same-twelve-spec : {M : Type 1} → statement M
 same-twelve-spec =

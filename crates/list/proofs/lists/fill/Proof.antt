@@ -23,13 +23,16 @@ abbrev μ-loop : tie.MeasureT-loop
 -- a list is shorter than its size field can say
 small : (c : tie.At-loop Inv-loop μ-loop) → length (now (c .before .before .before .args .list)) < 65536
 small c =
-    let s = (now (c .before .before .before .args .list)) in
-    omega (arith, c .before .before .before .pre .0 .head .size, le-lt 2 (drop 2 s) (λ i. rw getD-drop (c .before .before .shared-slice-known .given (2 + i) .fits)))
+    let p = c .before .before .before in
+    let bytes = c .before .before .shared-slice-known in
+    omega (arith, p .pre .0 .head .size, le-lt 2 (drop 2 (now (p .args .list))) (λ i. rw getD-drop (bytes .given (2 + i) .fits)))
 
-entry-here : (c : tie.In-loop Inv-loop μ-loop) → Sound access (revOf (now (c .before .before .before .before .args .list))) (drop (c .before .loop .at) (now (c .before .before .before .before .args .list)))
+entry-here : (c : tie.In-loop Inv-loop μ-loop)
+    → let s = now (c .before .before .before .before .args .list) in Sound access (revOf s) (drop (c .before .loop .at) s)
 entry-here c = next access _ _ _ _ _ _ (c .before .loop .inv) (c .loop-test .taken) .0
 
-size-is : (c : tie.After-half-at Inv-loop μ-loop) → c .half-at .result ≡ sizeOf (drop (c .before .before .loop .at) (now (c .before .before .before .before .before .args .list)))
+size-is : (c : tie.After-half-at Inv-loop μ-loop)
+    → c .half-at .result ≡ sizeOf (drop (c .before .before .loop .at) (now (c .before .before .before .before .before .args .list)))
 size-is c = c .half-at .ensures ∙ simp drop-drop
 
 loop-holds : tie.Need-loop-holds Inv-loop μ-loop

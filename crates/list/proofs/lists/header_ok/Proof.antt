@@ -25,13 +25,17 @@ rev-ok-requires : tie.Need-rev-ok-requires
 rev-ok-requires c κs = search needs
 
 returns-2 : tie.Need-returns-2
-returns-2 c = sym (bad-rev (now (c .before .before .before .before .before .args .list)) (omega arith) (sym (c .before .rev-ok .ensures) ∙ not-true _ (c .if2 .taken)))
+returns-2 c =
+    let s = now (c .before .before .before .before .before .args .list) in
+    sym (bad-rev s (omega arith) (sym (c .before .rev-ok .ensures) ∙ not-true _ (c .if2 .taken)))
 
 shared-slice-read-if3 : tie.Need-shared-slice-read-if3
 shared-slice-read-if3 c = search needs
 
 returns-3 : tie.Need-returns-3
-returns-3 c = sym (bad-zero (now (c .before .before .before .before .before .before .before .args .list)) (omega arith) (rev-yes (c .before .before)) (c .if3 .taken))
+returns-3 c =
+    let s = now (c .before .before .before .before .before .before .before .args .list) in
+    sym (bad-zero s (omega arith) (rev-yes (c .before .before)) (c .if3 .taken))
 
 half-at-requires : tie.Need-half-at-requires
 half-at-requires c κs = search needs
@@ -40,13 +44,18 @@ cast-if4 : tie.Need-cast-if4
 cast-if4 c = search needs
 
 returns-4 : tie.Need-returns-4
-returns-4 c = sym (bad-size (now (c .before .before .before .before .before .before .before .before .before .args .list)) (omega arith) (rev-yes (c .before .before .before .before)) (omega arith) (λ x. c .if4 .taken (c .before .half-at .ensures ∙ x)))
+returns-4 c =
+    let s = now (c .before .before .before .before .before .before .before .before .before .args .list) in
+    sym (bad-size s (omega arith) (rev-yes (c .before .before .before .before)) (omega arith) (λ x. c .if4 .taken (c .before .half-at .ensures ∙ x)))
 
 half-at-requires-2 : tie.Need-half-at-requires-2
 half-at-requires-2 c κs = search needs
 
 returns-5 : tie.Need-returns-5
-returns-5 c = ap (λ (n : ℕ). eqb n 0) (c .half-at2 .ensures) ∙ sym (last-test (now (c .before .before .before .before .before .before .before .before .before .before .args .list)) (omega arith) (rev-yes (c .before .before .before .before .before)) (omega arith) (omega arith))
+returns-5 c =
+    let s = now (c .before .before .before .before .before .before .before .before .before .before .args .list) in
+    let r = rev-yes (c .before .before .before .before .before) in
+    ap (λ (n : ℕ). eqb n 0) (c .half-at2 .ensures) ∙ sym (last-test s (omega arith) r (omega arith) (omega arith))
 
 pub header-ok-spec : {M : Type 1} → statement M
 header-ok-spec =

@@ -12,10 +12,12 @@ use Rattle.list.proofs.lists.read.Statement.{statement}
 use Rattle.list.proofs.lists.read.Tie as tie
 
 -- what `check` found
-done-here : (c : tie.After-length) → checkOf access (now (c .before .before .before .before .before .args .list)) ≡ Done (c .length .given .0 .0) (c .length .given .0 .1 .0)
+done-here : (c : tie.After-length)
+    → checkOf access (now (c .before .before .before .before .before .args .list)) ≡ Done (c .length .given .0 .0) (c .length .given .0 .1 .0)
 done-here c = sym (c .before .before .check .ensures) ∙ c .length .given .1
 
-bad-here : (c : tie.After-number) → checkOf access (now (c .before .before .before .before .before .args .list)) ≡ Refused (c .number .given .0 .0) (c .number .given .0 .1 .0)
+bad-here : (c : tie.After-number)
+    → checkOf access (now (c .before .before .before .before .before .args .list)) ≡ Refused (c .number .given .0 .0) (c .number .given .0 .1 .0)
 bad-here c = sym (c .before .before .check .ensures) ∙ c .number .given .1
 
 check-requires : tie.Need-check-requires

@@ -2,7 +2,8 @@
 use borrow.Author.Needs.{needs}
 use native.Mathlib.Omega.{arith}
 use mathlib.Core.Path.{_≡_, sym, ap, _∙_}
-use Prim.Native.Nat.{_-_, _≤_}
+use mathlib.Core.List.{List}
+use Prim.Native.Nat.{ℕ, _-_, _≤_}
 use denote.Ref.{now}
 use lib.ListN.{length, drop, length-drop}
 use lib.Seq.{drop-drop}
@@ -25,17 +26,30 @@ abbrev μ-loop : tie.MeasureT-loop
 μ-loop list rev count at₀ left₀ at left = left
 
 -- what the call of a turn found, as the definition has it
-bad-here : (c : tie.After-number Inv-loop μ-loop) → entryOf access (c .before .before .before .before .before .before .args .rev) (drop (c .before .before .before .before .loop .at) (now (c .before .before .before .before .before .before .args .list))) ≡ Bad (c .number .given .0 .0)
+bad-here : (c : tie.After-number Inv-loop μ-loop)
+    → let l = c .before .before .before .before in
+    let a = l .before .before .args in
+    entryOf access (a .rev) (drop (l .loop .at) (now (a .list))) ≡ Bad (c .number .given .0 .0)
 bad-here c = sym (c .before .before .entry-at .ensures) ∙ c .number .given .1
 
-good-here : (c : tie.After-e Inv-loop μ-loop) → entryOf access (c .before .before .before .before .before .before .args .rev) (drop (c .before .before .before .before .loop .at) (now (c .before .before .before .before .before .before .args .list))) ≡ Good (c .e .given .0 .0)
+-- the bytes that the turn looks at
+abbrev bytes-here : tie.After-e Inv-loop μ-loop → List ℕ
+bytes-here c =
+    let l = c .before .before .before .before in
+    drop (l .loop .at) (now (l .before .before .args .list))
+
+good-here : (c : tie.After-e Inv-loop μ-loop)
+    → entryOf access (c .before .before .before .before .before .before .args .rev) (bytes-here c) ≡ Good (c .e .given .0 .0)
 good-here c = sym (c .before .before .entry-at .ensures) ∙ c .e .given .1
 
-size-is : (c : tie.After-e Inv-loop μ-loop) → c .e .given .0 .0 .size ≡ sizeOf (drop (c .before .before .before .before .loop .at) (now (c .before .before .before .before .before .before .args .list)))
+size-is : (c : tie.After-e Inv-loop μ-loop) → c .e .given .0 .0 .size ≡ sizeOf (bytes-here c)
 size-is c = ap (λ (e : Entry). e .size) (fields access _ _ _ (good-here c))
 
-size-fits : (c : tie.After-e Inv-loop μ-loop) → c .e .given .0 .0 .size ≤ length (now (c .before .before .before .before .before .before .args .list)) - c .before .before .before .before .loop .at
-size-fits c = omega (arith, size-is c, sound access _ _ _ (good-here c) .within, length-drop (c .before .before .before .before .loop .at) (now (c .before .before .before .before .before .before .args .list)))
+size-fits : (c : tie.After-e Inv-loop μ-loop)
+    → let l = c .before .before .before .before in c .e .given .0 .0 .size ≤ length (now (l .before .before .args .list)) - l .loop .at
+size-fits c =
+    let l = c .before .before .before .before in
+    omega (arith, size-is c, sound access _ _ _ (good-here c) .within, length-drop (l .loop .at) (now (l .before .before .args .list)))
 
 loop-holds : tie.Need-loop-holds Inv-loop μ-loop
 loop-holds c = search needs
@@ -73,7 +87,9 @@ loop-again c =
     let a = c .before .before .before .before .before .before .before .before .args in
     let z = size-is (c .before .before) in (
       omega (arith, size-fits (c .before .before)),
-      l .inv .1 ∙ walk-good access (a .rev) (l .left) (l .at) (drop (l .at) (now (a .list))) _ (omega arith) _ (good-here (c .before .before)) ∙ simp (z, drop-drop),
+      l .inv .1
+          ∙ walk-good access (a .rev) (l .left) (l .at) (drop (l .at) (now (a .list))) _ (omega arith) _ (good-here (c .before .before))
+          ∙ simp (z, drop-drop),
     )
 
 cast-t13 : tie.Need-cast-t13 Inv-loop μ-loop

@@ -29,7 +29,8 @@ part-result-end c = search needs
 returns : tie.Need-returns
 returns c =
     let a = c .before .before .before .before .args in
-    part-least (now (a .s)) (a .at) (a .n) (c .before .before .least .result) (c .before .least2 .result) (c .before .before .least .ensures) (c .before .least2 .ensures)
+    part-least (now (a .s)) (a .at) (a .n) (c .before .before .least .result) (c .before .least2 .result)
+    (c .before .before .least .ensures) (c .before .least2 .ensures)
 
 pub part-of-spec : {M : Type 1} → statement M
 part-of-spec =

@@ -32,10 +32,11 @@ same-length c = search needs
 
 returns : tie.Need-returns
 returns c =
-    let t = now (c .before .before .before .before .before .before .before .before .before .args .t) in
-    let r = now (c .before .before .before .before .before .before .before .before .before .args .room) in
+    let size = c .before .before .before .before .before .before in
+    let a = size .before .before .before .args in
+    let r = now (a .room) in
     let i = c .before .before .before .before .byte-in .ensures in
-    let l = list-by t _ 2 _ (c .before .before .before .before .before .before .half-in .ensures) (c .before .before .before .part-of .ensures) in (
+    let l = list-by (now (a .t)) _ 2 _ (size .half-in .ensures) (c .before .before .before .part-of .ensures) in (
       c .before .before .set-list .ensures .0 ∙ ap₂ (λ (n : ℕ) (o : Optional). alterTo n (list o) r .answer) i l,
       c .before .before .set-list .ensures .1 ∙ ap₂ (λ (n : ℕ) (o : Optional). alterTo n (list o) r .bytes) i l,
     )

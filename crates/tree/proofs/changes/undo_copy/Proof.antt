@@ -37,8 +37,9 @@ settle-requires : tie.Need-settle-requires
 settle-requires c κs =
     let n = c .before .before .before .before .before .before .before in
     let a = n .before .before .before .before .before .before .before .before in
-    let f = undo-fits (now (a .args .r)) (a .pre .0 .0) _ _ _ _ _ _ (n .number-in .ensures .0) (c .before .before .before .before .before .before .step .ensures)
-    (c .before .before .before .number-in2 .ensures .0) (c .before .before .part-of .ensures) (c .before .number-in3 .ensures .0) (c .standing .ensures) (a .pre .1 .1) in
+    let f = undo-fits (now (a .args .r)) (a .pre .0 .0) _ _ _ _ _ _ (n .number-in .ensures .0)
+    (c .before .before .before .before .before .before .step .ensures) (c .before .before .before .number-in2 .ensures .0)
+    (c .before .before .part-of .ensures) (c .before .number-in3 .ensures .0) (c .standing .ensures) (a .pre .1 .1) in
     let l = n .before .before .before .pop .kept .1 .0 in
     (omega (arith, f .0), (omega (arith, f .0, l), (omega arith, omega (arith, f .1 .0, f .1 .1, l))))
 
@@ -53,8 +54,9 @@ returns c =
     let s = c .before .before .before .before .before in
     let n = s .before .before .before .before .before .before .before in
     let a = n .before .before .before .before .before .before .before .before in
-    rw (← undone-is (now (a .args .r)) (a .pre .0 .0) _ _ _ _ _ _ (n .number-in .ensures .0) (s .before .before .before .before .before .before .step .ensures)
-    (s .before .before .before .number-in2 .ensures .0) (s .before .before .part-of .ensures) (s .before .number-in3 .ensures .0) (s .standing .ensures) _ (a .pre .1 .0) (n .before .before .before .pop .ensures))
+    rw (← undone-is (now (a .args .r)) (a .pre .0 .0) _ _ _ _ _ _ (n .number-in .ensures .0)
+    (s .before .before .before .before .before .before .step .ensures) (s .before .before .before .number-in2 .ensures .0)
+    (s .before .before .part-of .ensures) (s .before .number-in3 .ensures .0) (s .standing .ensures) _ (a .pre .1 .0) (n .before .before .before .pop .ensures))
     (c .before .before .before .before .settle .ensures)
 
 pub undo-copy-spec : {M : Type 1} → statement M

@@ -31,7 +31,8 @@ returns-2 : tie.Need-returns-2
 unfolding againOk
 returns-2 c =
     let a = c .before .before .before .before .before .before .before .args in
-    simp (lt-ltb (numberOf (now (a .u))) (a .c) (omega arith), refused (c .before .block-ok .ensures ∙ ap blockOk (c .before .before .part-of .ensures)) (c .if2 .taken))
+    let e = c .before .block-ok .ensures ∙ ap blockOk (c .before .before .part-of .ensures) in
+    simp (lt-ltb (numberOf (now (a .u))) (a .c) (omega arith), refused e (c .if2 .taken))
 
 own-requires : tie.Need-own-requires
 own-requires c κs = search needs
@@ -42,9 +43,12 @@ alike-requires c κs = search needs
 returns-3 : tie.Need-returns-3
 unfolding againOk
 returns-3 c =
-    let a = c .before .before .before .before .before .before .before .before .before .args in
-    simp (lt-ltb (numberOf (now (a .u))) (a .c) (omega arith), passed (c .before .before .before .block-ok .ensures ∙ ap blockOk (c .before .before .before .before .part-of .ensures)) (c .before .before .if2 .left))
-    (c .alike .ensures ∙ ap₂ alike (c .before .before .before .before .part-of .ensures) (c .before .own .ensures ∙ ap (λ (i : ℕ). own i (now (a .r))) (c .before .before .before .before .before .before .number-in .ensures .0)))
+    let p = c .before .before .before .before in
+    let a = p .before .before .before .before .before .args in
+    let e = c .before .before .before .block-ok .ensures ∙ ap blockOk (p .part-of .ensures) in
+    let o = c .before .own .ensures ∙ ap (λ (i : ℕ). own i (now (a .r))) (p .before .before .number-in .ensures .0) in
+    simp (lt-ltb (numberOf (now (a .u))) (a .c) (omega arith), passed e (c .before .before .if2 .left))
+    (c .alike .ensures ∙ ap₂ alike (p .part-of .ensures) o)
 
 pub again-ok-spec : {M : Type 1} → statement M
 again-ok-spec =

@@ -14,13 +14,20 @@ use Rattle.tree.proofs.formed.formed.Tie as tie
 head-yes : (c : tie.Else1) → headOk (now (c .before .before .before .args .r)) ≡ true
 head-yes c = passed (c .before .head-ok .ensures) (c .if1 .left)
 
+settings-here : (c : tie.After-settings-ok) → c .settings-ok .result ≡ settingsOk (settings (now (c .before .before .before .before .before .args .r)))
+settings-here c = c .settings-ok .ensures ∙ ap settingsOk (c .before .settings .ensures)
+
 settings-yes : (c : tie.Else2) → settingsOk (settings (now (c .before .before .before .before .before .before .args .r))) ≡ true
-settings-yes c = passed (c .before .settings-ok .ensures ∙ ap settingsOk (c .before .before .settings .ensures)) (c .if2 .left)
+settings-yes c = passed (settings-here (c .before)) (c .if2 .left)
 
-objects-here : (c : tie.After-objects-ok) → c .objects-ok .result ≡ every (objectOk (now (c .before .before .before .before .before .before .before .before .args .r))) (objects (now (c .before .before .before .before .before .before .before .before .args .r)))
-objects-here c = c .objects-ok .ensures ∙ ap (every (objectOk (now (c .before .before .before .before .before .before .before .before .args .r)))) (c .before .number-in .ensures .0)
+objects-here : (c : tie.After-objects-ok)
+    → let r = now (c .before .before .before .before .before .before .before .before .args .r) in c .objects-ok .result ≡ every (objectOk r) (objects r)
+objects-here c =
+    let r = now (c .before .before .before .before .before .before .before .before .args .r) in
+    c .objects-ok .ensures ∙ ap (every (objectOk r)) (c .before .number-in .ensures .0)
 
-steps-are : (r : List ℕ) {n m k : ℕ} → n ≡ limit r → m ≡ kept r → k ≡ objects r → stepsOk (λ i. own i r) (λ j. step n j r) m 0 k ≡ stepsOk (λ i. own i r) (λ j. step (limit r) j r) (kept r) 0 (objects r)
+steps-are : (r : List ℕ) {n m k : ℕ} → n ≡ limit r → m ≡ kept r → k ≡ objects r
+    → stepsOk (λ i. own i r) (λ j. step n j r) m 0 k ≡ stepsOk (λ i. own i r) (λ j. step (limit r) j r) (kept r) 0 (objects r)
 steps-are r a b d = simp (a, b, d)
 
 head-ok-requires : tie.Need-head-ok-requires
@@ -38,7 +45,7 @@ settings-ok-requires c κs = search needs
 
 returns-2 : tie.Need-returns-2
 unfolding formed
-returns-2 c = simp (head-yes (c .before .before .before), refused (c .before .settings-ok .ensures ∙ ap settingsOk (c .before .before .settings .ensures)) (c .if2 .taken))
+returns-2 c = simp (head-yes (c .before .before .before), refused (settings-here (c .before)) (c .if2 .taken))
 
 number-in-requires : tie.Need-number-in-requires
 number-in-requires c κs = search needs
@@ -48,7 +55,9 @@ objects-ok-requires c κs = search needs
 
 returns-3 : tie.Need-returns-3
 unfolding formed
-returns-3 c = simp (head-yes (c .before .before .before .before .before .before), settings-yes (c .before .before .before), refused (objects-here (c .before)) (c .if3 .taken))
+returns-3 c =
+    let s = c .before .before .before in
+    simp (head-yes (s .before .before .before), settings-yes s, refused (objects-here (c .before)) (c .if3 .taken))
 
 number-in-requires-2 : tie.Need-number-in-requires-2
 number-in-requires-2 c κs = search needs
@@ -62,8 +71,11 @@ steps-ok-requires c κs = search needs
 returns-4 : tie.Need-returns-4
 unfolding formed
 returns-4 c =
-    simp (head-yes (c .before .before .before .before .before .before .before .before .before), settings-yes (c .before .before .before .before .before .before), passed (objects-here (c .before .before .before .before)) (c .before .before .before .if3 .left))
-    (c .steps-ok .ensures ∙ steps-are _ (c .before .before .number-in2 .ensures .0) (c .before .number-in3 .ensures .0) (c .before .before .before .before .before .number-in .ensures .0))
+    let o = c .before .before .before in
+    let s = o .before .before .before in
+    simp (head-yes (s .before .before .before), settings-yes s, passed (objects-here (o .before)) (o .if3 .left))
+    (c .steps-ok .ensures
+    ∙ steps-are _ (c .before .before .number-in2 .ensures .0) (c .before .number-in3 .ensures .0) (o .before .before .number-in .ensures .0))
 
 pub formed-spec : {M : Type 1} → statement M
 formed-spec =

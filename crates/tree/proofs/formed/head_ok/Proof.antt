@@ -52,7 +52,16 @@ returns-7 : tie.Need-returns-7
 returns-7 c = head-no _ (λ h. omega arith)
 
 returns-8 : tie.Need-returns-8
-returns-8 c = sym (head-said _ (record { long = omega arith; some-limit = omega arith; limit-64 = omega arith; depth-64 = omega arith; within = omega arith; kept-within = omega arith; room-enough = omega arith }))
+returns-8 c =
+    sym (head-said _ (record {
+      long = omega arith;
+      some-limit = omega arith;
+      limit-64 = omega arith;
+      depth-64 = omega arith;
+      within = omega arith;
+      kept-within = omega arith;
+      room-enough = omega arith;
+    }))
 
 pub head-ok-spec : {M : Type 1} → statement M
 head-ok-spec =

@@ -12,14 +12,22 @@ use Rattle.tree.proofs.Tested.{refused, passed}
 use Rattle.tree.proofs.formed.object_ok.Statement.{statement}
 use Rattle.tree.proofs.formed.object_ok.Tie as tie
 
-block-yes : (c : tie.Else1) → blockOk (own (c .before .before .before .before .args .i) (now (c .before .before .before .before .args .r))) ≡ true
+-- the object's own data, in the room as it was passed
+abbrev own-here : tie.Start → List ℕ
+own-here s = own (s .args .i) (now (s .args .r))
+
+block-yes : (c : tie.Else1) → blockOk (own-here (c .before .before .before .before)) ≡ true
 block-yes c = passed (c .before .block-ok .ensures ∙ ap blockOk (c .before .before .own .ensures)) (c .if1 .left)
 
-parent-here : (c : tie.After-number-in) → c .number-in .result ≡ parentOf (own (c .before .before .before .before .before .args .i) (now (c .before .before .before .before .before .args .r)))
+parent-here : (c : tie.After-number-in) → c .number-in .result ≡ parentOf (own-here (c .before .before .before .before .before))
 parent-here c = c .number-in .ensures .0 ∙ ap (λ (b : List ℕ). parentOf b) (c .before .before .before .own .ensures)
 
-placed-here : (c : tie.After-placed) → c .placed .result ≡ placed 255 (λ j. own j (now (c .before .before .before .before .before .before .args .r))) (c .before .before .before .before .before .before .args .i) (parentOf (own (c .before .before .before .before .before .before .args .i) (now (c .before .before .before .before .before .before .args .r))))
-placed-here c = c .placed .ensures ∙ ap (placed 255 (λ j. own j (now (c .before .before .before .before .before .before .args .r))) (c .before .before .before .before .before .before .args .i)) (parent-here (c .before))
+placed-here : (c : tie.After-placed)
+    → let s = c .before .before .before .before .before .before in
+    c .placed .result ≡ placed 255 (λ j. own j (now (s .args .r))) (s .args .i) (parentOf (own-here s))
+placed-here c =
+    let a = c .before .before .before .before .before .before .args in
+    c .placed .ensures ∙ ap (placed 255 (λ j. own j (now (a .r))) (a .i)) (parent-here (c .before))
 
 own-requires : tie.Need-own-requires
 own-requires c κs = search needs

@@ -13,16 +13,29 @@ use Rattle.tree.proofs.formed.steps_ok.Statement.{statement}
 use Rattle.tree.proofs.formed.steps_ok.Tie as tie
 
 abbrev Inv-loop : tie.InvT-loop
-Inv-loop r n m c j₀ stand₀ j stand = (j ≤ m) × ((stand ≤ c) × (stepsOk (λ i. own i r) (λ i. step n i r) m 0 c ≡ stepsOk (λ i. own i r) (λ i. step n i r) (m - j) j stand))
+Inv-loop r n m c j₀ stand₀ j stand =
+    (j ≤ m) × ((stand ≤ c) × (stepsOk (λ i. own i r) (λ i. step n i r) m 0 c ≡ stepsOk (λ i. own i r) (λ i. step n i r) (m - j) j stand))
 
 abbrev μ-loop : tie.MeasureT-loop
 μ-loop r n m c j₀ stand₀ j stand = m - j
 
-step-here : (c : tie.After-step-ok Inv-loop μ-loop) → c .step-ok .result ≡ stepOk (λ i. own i (now (c .before .before .before .before .before .args .r))) (c .before .before .before .loop .stand) (step (c .before .before .before .before .before .args .n) (c .before .before .before .loop .j) (now (c .before .before .before .before .before .args .r)))
-step-here c = c .step-ok .ensures ∙ ap (stepOk (λ i. own i (now (c .before .before .before .before .before .args .r))) (c .before .before .before .loop .stand)) (c .before .step .ensures)
+-- the step that a turn looks at
+abbrev looked-at : tie.At-loop Inv-loop μ-loop → List ℕ
+looked-at l =
+    let a = l .before .before .args in
+    step (a .n) (l .loop .j) (now (a .r))
 
-stand-here : (c : tie.After-standing Inv-loop μ-loop) → c .standing .result ≡ standing (c .before .before .before .before .before .loop .stand) (step (c .before .before .before .before .before .before .before .args .n) (c .before .before .before .before .before .loop .j) (now (c .before .before .before .before .before .before .before .args .r)))
-stand-here c = c .standing .ensures ∙ ap (λ (u : List ℕ). standing (c .before .before .before .before .before .loop .stand) u) (c .before .before .before .step .ensures)
+step-here : (c : tie.After-step-ok Inv-loop μ-loop)
+    → let l = c .before .before .before in c .step-ok .result ≡ stepOk (λ i. own i (now (l .before .before .args .r))) (l .loop .stand) (looked-at l)
+step-here c =
+    let l = c .before .before .before in
+    c .step-ok .ensures ∙ ap (stepOk (λ i. own i (now (l .before .before .args .r))) (l .loop .stand)) (c .before .step .ensures)
+
+stand-here : (c : tie.After-standing Inv-loop μ-loop) → let l = c .before .before .before .before .before in
+    c .standing .result ≡ standing (l .loop .stand) (looked-at l)
+stand-here c =
+    let l = c .before .before .before .before .before in
+    c .standing .ensures ∙ ap (λ (u : List ℕ). standing (l .loop .stand) u) (c .before .before .before .step .ensures)
 
 loop-holds : tie.Need-loop-holds Inv-loop μ-loop
 loop-holds c = (omega arith, (omega arith, rw sub-zero))
@@ -49,9 +62,10 @@ loop-less c = omega arith
 
 loop-again : tie.Need-loop-again Inv-loop μ-loop
 loop-again c =
-    let l = c .before .before .before .before .before .loop in
-    let most = rw (← stand-here c) at (standing-most (l .stand) (step (c .before .before .before .before .before .before .before .args .n) (l .j) (now (c .before .before .before .before .before .before .before .args .r)))) in
-    (omega arith, (omega arith, l .inv .1 .1 ∙ steps-more _ _ _ _ _ (c .before .before .before .before .loop-test .taken) (passed (step-here (c .before .before)) (c .before .if1 .left)) (stand-here c)))
+    let l = c .before .before .before .before .before in
+    let most = rw (← stand-here c) at (standing-most (l .loop .stand) (looked-at l)) in
+    let ok = passed (step-here (c .before .before)) (c .before .if1 .left) in
+    (omega arith, (omega arith, l .loop .inv .1 .1 ∙ steps-more _ _ _ _ _ (c .before .before .before .before .loop-test .taken) ok (stand-here c)))
 
 returns-2 : tie.Need-returns-2 Inv-loop μ-loop
 returns-2 c =

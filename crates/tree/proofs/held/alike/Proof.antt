@@ -18,8 +18,9 @@ byte-in-requires-2 c κs = search needs
 returns : tie.Need-returns
 unfolding alike
 returns c =
-    let a = now (c .before .before .before .before .before .args .a) in
-    let b = now (c .before .before .before .before .before .args .b) in
+    let both = c .before .before .before .before .before .args in
+    let a = now (both .a) in
+    let b = now (both .b) in
     simp (ne-eqb (parentOf a) (parentOf b) (λ e. omega arith))
 
 byte-in-requires-3 : tie.Need-byte-in-requires-3
@@ -31,8 +32,9 @@ byte-in-requires-4 c κs = search needs
 returns-2 : tie.Need-returns-2
 unfolding alike
 returns-2 c =
-    let a = now (c .before .before .before .before .before .before .before .before .args .a) in
-    let b = now (c .before .before .before .before .before .before .before .before .args .b) in
+    let both = c .before .before .before .before .before .before .before .before .args in
+    let a = now (both .a) in
+    let b = now (both .b) in
     simp (eq-eqb (parentOf a) (parentOf b) (omega arith), ne-eqb (kindOf a) (kindOf b) (λ e. omega arith))
 
 guid-at-requires : tie.Need-guid-at-requires
@@ -47,8 +49,9 @@ same-guid-requires c κs = search needs
 returns-3 : tie.Need-returns-3
 unfolding alike
 returns-3 c =
-    let a = now (c .before .before .before .before .before .before .before .before .before .before .before .args .a) in
-    let b = now (c .before .before .before .before .before .before .before .before .before .before .before .args .b) in
+    let both = c .before .before .before .before .before .before .before .before .before .before .before .args in
+    let a = now (both .a) in
+    let b = now (both .b) in
     simp (eq-eqb (parentOf a) (parentOf b) (omega arith), eq-eqb (kindOf a) (kindOf b) (omega arith))
     (c .same-guid .ensures ∙ ap₂ sameBytes (c .before .before .guid-at .ensures) (c .before .guid-at2 .ensures))
 

@@ -11,11 +11,19 @@ use Rattle.tree.proofs.Tested.{refused, passed}
 use Rattle.tree.proofs.held.block_ok.Statement.{statement}
 use Rattle.tree.proofs.held.block_ok.Tie as tie
 
-owner-yes : (c : tie.Else3) → idOk (part 19 69 (now (c .before .before .before .before .before .before .before .before .args .b))) ≡ true
-owner-yes c = passed (c .before .id-ok .ensures ∙ ap idOk (c .before .before .part-of .ensures)) (c .if3 .left)
+owner-here : (c : tie.After-id-ok) → c .id-ok .result ≡ idOk (part 19 69 (now (c .before .before .before .before .before .before .before .args .b)))
+owner-here c = c .id-ok .ensures ∙ ap idOk (c .before .part-of .ensures)
 
-group-yes : (c : tie.Else4) → idOk (part 88 69 (now (c .before .before .before .before .before .before .before .before .before .before .before .args .b))) ≡ true
-group-yes c = passed (c .before .id-ok2 .ensures ∙ ap idOk (c .before .before .part-of2 .ensures)) (c .if4 .left)
+owner-yes : (c : tie.Else3) → idOk (part 19 69 (now (c .before .before .before .before .before .before .before .before .args .b))) ≡ true
+owner-yes c = passed (owner-here (c .before)) (c .if3 .left)
+
+group-here : (c : tie.After-id-ok2)
+    → c .id-ok2 .result ≡ idOk (part 88 69 (now (c .before .before .before .before .before .before .before .before .before .before .args .b)))
+group-here c = c .id-ok2 .ensures ∙ ap idOk (c .before .part-of2 .ensures)
+
+group-yes : (c : tie.Else4)
+    → idOk (part 88 69 (now (c .before .before .before .before .before .before .before .before .before .before .before .args .b))) ≡ true
+group-yes c = passed (group-here (c .before)) (c .if4 .left)
 
 byte-in-requires : tie.Need-byte-in-requires
 byte-in-requires c κs = search needs
@@ -45,7 +53,7 @@ returns-3 : tie.Need-returns-3
 unfolding blockOk
 returns-3 c =
     let b = now (c .before .before .before .before .before .before .before .before .args .b) in
-    simp (le-leb (kindOf b) 1 (omega arith), le-leb (markOf b) 1 (omega arith), refused (c .before .id-ok .ensures ∙ ap idOk (c .before .before .part-of .ensures)) (c .if3 .taken))
+    simp (le-leb (kindOf b) 1 (omega arith), le-leb (markOf b) 1 (omega arith), refused (owner-here (c .before)) (c .if3 .taken))
 
 part-of-requires-2 : tie.Need-part-of-requires-2
 part-of-requires-2 c κs = search needs
@@ -57,7 +65,12 @@ returns-4 : tie.Need-returns-4
 unfolding blockOk
 returns-4 c =
     let b = now (c .before .before .before .before .before .before .before .before .before .before .before .args .b) in
-    simp (le-leb (kindOf b) 1 (omega arith), le-leb (markOf b) 1 (omega arith), owner-yes (c .before .before .before), refused (c .before .id-ok2 .ensures ∙ ap idOk (c .before .before .part-of2 .ensures)) (c .if4 .taken))
+    simp (
+      le-leb (kindOf b) 1 (omega arith),
+      le-leb (markOf b) 1 (omega arith),
+      owner-yes (c .before .before .before),
+      refused (group-here (c .before)) (c .if4 .taken),
+    )
 
 part-of-requires-3 : tie.Need-part-of-requires-3
 part-of-requires-3 c κs = search needs
@@ -68,8 +81,10 @@ slot-ok-requires c κs = search needs
 returns-5 : tie.Need-returns-5
 unfolding blockOk
 returns-5 c =
-    let b = now (c .before .before .before .before .before .before .before .before .before .before .before .before .before .args .b) in
-    simp (le-leb (kindOf b) 1 (omega arith), le-leb (markOf b) 1 (omega arith), owner-yes (c .before .before .before .before .before), group-yes (c .before .before))
+    let g = c .before .before in
+    let o = g .before .before .before in
+    let b = now (o .before .before .before .before .before .before .before .before .args .b) in
+    simp (le-leb (kindOf b) 1 (omega arith), le-leb (markOf b) 1 (omega arith), owner-yes o, group-yes g)
     (c .slot-ok .ensures ∙ ap slotOk (c .before .part-of3 .ensures))
 
 pub block-ok-spec : {M : Type 1} → statement M

@@ -31,7 +31,8 @@ returns : tie.Need-returns
 returns c =
     let h = c .before .before .before .before .before .before in
     let a = h .before .before .before .before .args in
-    push-none (now (a .r)) _ _ (h .before .number-in .ensures .0) (h .number-in2 .ensures .0) (now (a .w)) (omega arith) (omega arith) _ _ _ (c .before .before .before .before .before .if1 .taken) (c .before .before .before .part-of .ensures) (c .before .before .lay .ensures)
+    push-none (now (a .r)) _ _ (h .before .number-in .ensures .0) (h .number-in2 .ensures .0) (now (a .w)) (omega arith) (omega arith) _ _ _
+    (c .before .before .before .before .before .if1 .taken) (c .before .before .before .part-of .ensures) (c .before .before .lay .ensures)
 
 shift-requires : tie.Need-shift-requires
 shift-requires c κs = search needs
@@ -53,7 +54,8 @@ returns-2 c =
     let f = c .before .before .before .before .before .before .before in
     let h = f .before .before .before in
     let a = h .before .before .before .before .args in
-    push-some (now (a .r)) _ _ (h .before .number-in .ensures .0) (h .number-in2 .ensures .0) (a .tag) (a .i) _ _ _ (omega arith) (omega arith) (c .before .before .before .own .ensures) (f .shift .ensures) (c .before .before .lay-step .ensures)
+    push-some (now (a .r)) _ _ (h .before .number-in .ensures .0) (h .number-in2 .ensures .0) (a .tag) (a .i) _ _ _ (omega arith) (omega arith)
+    (c .before .before .before .own .ensures) (f .shift .ensures) (c .before .before .lay-step .ensures)
 
 pub push-spec : {M : Type 1} → statement M
 push-spec =

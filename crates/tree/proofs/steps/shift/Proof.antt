@@ -70,7 +70,8 @@ returns c =
     let l = c .before .before .before .before .before .before .before .before in
     let h = l .before .before .before in
     let a = h .before .before .before .before .before .args in
-    shift-is (now (a .r)) _ _ (h .before .before .number-in .ensures .0) (h .before .number-in2 .ensures .0) (now (a .w)) (omega arith) (omega arith) _ _ _ _ _ _ (omega arith) (h .number-in3 .ensures .0) (c .least .ensures)
+    shift-is (now (a .r)) _ _ (h .before .before .number-in .ensures .0) (h .before .number-in2 .ensures .0) (now (a .w)) (omega arith) (omega arith)
+    _ _ _ _ _ _ (omega arith) (h .number-in3 .ensures .0) (c .least .ensures)
     (l .before .part-of .ensures) (l .lay .ensures) (c .before .before .before .before .part-of2 .ensures) (c .before .before .before .lay2 .ensures)
 
 pub shift-spec : {M : Type 1} → statement M

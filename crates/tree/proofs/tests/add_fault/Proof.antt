@@ -17,8 +17,12 @@ use Rattle.tree.proofs.tests.add_fault.Tie as tie
 formed-yes : (c : tie.Else1) → formed (now (c .before .before .before .args .r)) ≡ true
 formed-yes c = passed (c .before .formed .ensures) (c .if1 .left)
 
-placed-here : (c : tie.After-placed) → c .placed .result ≡ placed nobody (λ j. own j (now (c .before .before .before .before .before .args .r))) (objects (now (c .before .before .before .before .before .args .r))) (c .before .before .before .before .before .args .parent)
-placed-here c = c .placed .ensures ∙ ap (λ (n : ℕ). placed nobody (λ j. own j (now (c .before .before .before .before .before .args .r))) n (c .before .before .before .before .before .args .parent)) (c .before .number-in .ensures .0)
+placed-here : (c : tie.After-placed)
+    → let a = c .before .before .before .before .before .args in
+    c .placed .result ≡ placed nobody (λ j. own j (now (a .r))) (objects (now (a .r))) (a .parent)
+placed-here c =
+    let a = c .before .before .before .before .before .args in
+    c .placed .ensures ∙ ap (λ (n : ℕ). placed nobody (λ j. own j (now (a .r))) n (a .parent)) (c .before .number-in .ensures .0)
 
 formed-requires : tie.Need-formed-requires
 formed-requires c κs = search needs
@@ -43,14 +47,16 @@ number-in-requires-2 c κs = search needs
 returns-3 : tie.Need-returns-3
 unfolding addFault
 returns-3 c =
-    let r = now (c .before .before .before .before .before .before .before .before .args .r) in
-    simp (formed-yes (c .before .before .before .before .before), passed (placed-here (c .before .before .before)) (c .before .before .if2 .left), lt-ltb (objects r) (limit r) (omega arith))
+    let p = c .before .before in
+    let r = now (p .before .before .before .before .before .before .args .r) in
+    simp (formed-yes (p .before .before .before), passed (placed-here (p .before)) (p .if2 .left), lt-ltb (objects r) (limit r) (omega arith))
 
 returns-4 : tie.Need-returns-4
 unfolding addFault
 returns-4 c =
-    let r = now (c .before .before .before .before .before .before .before .before .args .r) in
-    simp (formed-yes (c .before .before .before .before .before), passed (placed-here (c .before .before .before)) (c .before .before .if2 .left), le-ltb (objects r) (limit r) (omega arith))
+    let p = c .before .before in
+    let r = now (p .before .before .before .before .before .before .args .r) in
+    simp (formed-yes (p .before .before .before), passed (placed-here (p .before)) (p .if2 .left), le-ltb (objects r) (limit r) (omega arith))
 
 pub add-fault-spec : {M : Type 1} → statement M
 add-fault-spec =

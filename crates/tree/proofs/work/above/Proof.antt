@@ -22,7 +22,8 @@ slot-requires c κs = search needs
 returns : tie.Need-returns
 returns c =
     let n = c .before .before .number-in in
-    above-slot (c .before .before .before .before .before .args .i) (n .result) (now (c .before .before .before .before .before .args .r)) (now (c .slot .result))
+    let a = c .before .before .before .before .before .args in
+    above-slot (a .i) (n .result) (now (a .r)) (now (c .slot .result))
     (n .ensures .0 ∙ ap (λ (x : List ℕ). getD x 0 0) (c .before .before .before .own .ensures)) (omega arith) (c .slot .ensures)
 
 sub-result : tie.Need-sub-result
@@ -37,7 +38,8 @@ part-result-end c = search needs
 returns-2 : tie.Need-returns-2
 returns-2 c =
     let n = c .before .before .number-in in
-    above-none (c .before .before .before .before .before .args .i) (n .result) (now (c .before .before .before .before .before .args .r))
+    let a = c .before .before .before .before .before .args in
+    above-none (a .i) (n .result) (now (a .r))
     (n .ensures .0 ∙ ap (λ (x : List ℕ). getD x 0 0) (c .before .before .before .own .ensures)) (omega arith)
 
 pub above-spec : {M : Type 1} → statement M

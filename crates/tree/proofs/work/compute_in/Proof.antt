@@ -60,15 +60,24 @@ same-length c = search needs
 
 returns : tie.Need-returns
 returns c =
-    let a = c .before .before .before .before .before .before .before .before .before .before .before .before .before .before .before .before .before .before .before .before .before .before .args in
+    let group = c .before .before .before .before in
+    let owner = group .before .before in
+    let default = owner .before .before .before in
+    let own = default .before .before in
+    let parent = own .before .before in
+    let rule = parent .before .before .before in
+    let a = rule .before .before .before .before .before .before .args in
     let k = c .before .before .compute in
     compute-found (now (a .e)) (now (a .p)) (now (a .b)) _ _ _ _ _ _ _ _ _ (now (a .out)) _ (k .result)
-    (c .before .before .before .before .before .before .before .before .before .before .before .before .before .before .before .before .byte-in .ensures) (c .before .before .before .before .before .before .before .before .before .before .before .before .before .before .before .settings-in .ensures) (c .before .before .before .before .before .before .before .before .before .before .before .before .before .before .mapping-in .ensures) (c .before .before .before .before .before .before .before .before .before .before .before .before .before .bytes-in .ensures)
-    (c .before .before .before .before .before .before .before .before .before .before .before .bytes-in2 .ensures ∙ ap bytesIn (c .before .before .before .before .before .before .before .before .before .before .before .before .part-of .ensures))
-    (c .before .before .before .before .before .before .before .before .before .bytes-in3 .ensures ∙ ap bytesIn (c .before .before .before .before .before .before .before .before .before .before .part-of2 .ensures))
-    (c .before .before .before .before .before .before .before .before .before .before .before .before .before .before .before .before .before .guid-at .ensures)
-    (c .before .before .before .before .before .before .id-in .ensures ∙ ap idIn (c .before .before .before .before .before .before .before .part-of3 .ensures))
-    (c .before .before .before .before .id-in2 .ensures ∙ ap idIn (c .before .before .before .before .before .part-of4 .ensures))
+    (rule .byte-in .ensures)
+    (parent .before .before .settings-in .ensures)
+    (parent .before .mapping-in .ensures)
+    (parent .bytes-in .ensures)
+    (own .bytes-in2 .ensures ∙ ap bytesIn (own .before .part-of .ensures))
+    (default .bytes-in3 .ensures ∙ ap bytesIn (default .before .part-of2 .ensures))
+    (rule .before .guid-at .ensures)
+    (owner .id-in .ensures ∙ ap idIn (owner .before .part-of3 .ensures))
+    (group .id-in2 .ensures ∙ ap idIn (group .before .part-of4 .ensures))
     (k .ensures .0) (k .ensures .1)
 
 pub compute-in-spec : {M : Type 1} → statement M

@@ -18,7 +18,9 @@ word-in-requires-4 : tie.Need-word-in-requires-4
 word-in-requires-4 c κs = search needs
 
 returns : tie.Need-returns
-returns c = masks-found (now (c .before .before .before .before .before .args .e)) _ _ _ _ (c .before .before .before .word-in .ensures) (c .before .before .word-in2 .ensures) (c .before .word-in3 .ensures) (c .word-in4 .ensures)
+returns c =
+    masks-found (now (c .before .before .before .before .before .args .e)) _ _ _ _
+    (c .before .before .before .word-in .ensures) (c .before .before .word-in2 .ensures) (c .before .word-in3 .ensures) (c .word-in4 .ensures)
 
 pub mapping-in-spec : {M : Type 1} → statement M
 mapping-in-spec =

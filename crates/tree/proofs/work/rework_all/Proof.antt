@@ -32,7 +32,8 @@ same-length-2 c = search needs
 returns : tie.Need-returns Inv-loop μ-loop
 returns c =
     let k = c .before .before .before .before .before in
-    turn-none _ _ _ _ _ (k .before .before .before .loop-test .taken) (k .before .before .before .before .loop .inv .1 .0) (sym (not-true _ (c .if1 .taken)) ∙ k .rework-one .ensures .0)
+    turn-none _ _ _ _ _ (k .before .before .before .loop-test .taken) (k .before .before .before .before .loop .inv .1 .0)
+    (sym (not-true _ (c .if1 .taken)) ∙ k .rework-one .ensures .0)
 
 add-i : tie.Need-add-i Inv-loop μ-loop
 add-i c = search needs
@@ -45,7 +46,8 @@ loop-again c =
     let k = c .before .before .before .before .before in
     let o = k .rework-one in
     let t = sym (not-false _ (c .if1 .left)) ∙ o .ensures .0 in
-    (omega arith, (turn-some _ _ _ _ (k .before .before .before .before .loop .inv .1 .0) t (o .ensures .1), (omega (arith, o .kept .0), omega (arith, o .kept .1 .0))))
+    let made = turn-some _ _ _ _ (k .before .before .before .before .loop .inv .1 .0) t (o .ensures .1) in
+    (omega arith, (made, (omega (arith, o .kept .0), omega (arith, o .kept .1 .0))))
 
 same-length-3 : tie.Need-same-length-3 Inv-loop μ-loop
 same-length-3 c = search needs

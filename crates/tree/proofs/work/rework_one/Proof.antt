@@ -37,7 +37,9 @@ part-of-requires : tie.Need-part-of-requires
 part-of-requires c κs = search needs
 
 lay-list-requires : tie.Need-lay-list-requires
-lay-list-requires c κs = omega (arith, inside _ _ _ _ (c .part-of .ensures), c .before .before .before .before .before .before .before .before .compute-in .kept .1 .1 .1 .0)
+lay-list-requires c κs =
+    let k = c .before .before .before .before .before .before .before .before in
+    omega (arith, inside _ _ _ _ (c .part-of .ensures), k .compute-in .kept .1 .1 .1 .0)
 
 enum-told : tie.Need-enum-told
 enum-told c = search needs
@@ -59,8 +61,10 @@ returns c =
     let k = c .before .before .before .before .before .before .before .before .before .before .before in
     let s = k .before .before .before .before .before .before .before .before in
     rework-present (s .args .i) (now (s .args .w)) (now (s .args .out)) _ _ _ _
-    (k .before .before .before .above .ensures) (k .before .before .before .before .settings .ensures) (k .before .before .own .ensures) (s .pre .1 .1) (k .compute-in .ensures .0) _ _ _ _ _
-    (c .before .before .before .before .before .before .before .length .given .1) (k .compute-in .ensures .1) (c .before .before .lay-list .ensures ∙ rw (c .before .before .before .part-of .ensures))
+    (k .before .before .before .above .ensures) (k .before .before .before .before .settings .ensures) (k .before .before .own .ensures)
+    (s .pre .1 .1) (k .compute-in .ensures .0) _ _ _ _ _ (c .before .before .before .before .before .before .before .length .given .1)
+    (k .compute-in .ensures .1)
+    (c .before .before .lay-list .ensures ∙ rw (c .before .before .before .part-of .ensures))
 
 same-length-3 : tie.Need-same-length-3
 same-length-3 c = search needs
@@ -74,8 +78,8 @@ returns-2 c =
     let k = c .before .before .before .before .before .before .before .before in
     let s = k .before .before .before .before .before .before .before .before in
     rework-absent (s .args .i) (now (s .args .w)) (now (s .args .out)) _ _ _ _
-    (k .before .before .before .above .ensures) (k .before .before .before .before .settings .ensures) (k .before .before .own .ensures) (s .pre .1 .1) (k .compute-in .ensures .0) _
-    (c .before .before .before .before .enum-told .given .1) (c .before .before .zero .ensures)
+    (k .before .before .before .above .ensures) (k .before .before .before .before .settings .ensures) (k .before .before .own .ensures)
+    (s .pre .1 .1) (k .compute-in .ensures .0) _ (c .before .before .before .before .enum-told .given .1) (c .before .before .zero .ensures)
 
 same-length-5 : tie.Need-same-length-5
 same-length-5 c = search needs
@@ -88,7 +92,8 @@ returns-3 c =
     let k = c .before .before .before .before .before in
     let s = k .before .before .before .before .before .before .before .before in
     rework-refused (s .args .i) (now (s .args .w)) (now (s .args .out)) _ _ _ _
-    (k .before .before .before .above .ensures) (k .before .before .before .before .settings .ensures) (k .before .before .own .ensures) (s .pre .1 .1) (k .compute-in .ensures .0) _ _ _ (c .before .number .given .1)
+    (k .before .before .before .above .ensures) (k .before .before .before .before .settings .ensures) (k .before .before .own .ensures)
+    (s .pre .1 .1) (k .compute-in .ensures .0) _ _ _ (c .before .number .given .1)
 
 pub rework-one-spec : {M : Type 1} → statement M
 rework-one-spec =

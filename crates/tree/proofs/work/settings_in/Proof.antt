@@ -32,11 +32,14 @@ byte-in-requires-2 c κs = search needs
 
 returns : tie.Need-returns
 returns c =
-    let b = c .before .before .before .before .before .before in
-    settings-found (now (c .before .before .before .before .before .before .before .before .before .before .args .e)) (now (c .before .before .before .before .before .before .before .before .before .before .args .p)) (now (c .before .before .before .before .before .before .before .before .before .before .args .b)) _ _ _ _ _
-    (b .has-list .ensures)
-    (c .before .before .before .before .has-list2 .ensures ∙ ap hasList (c .before .before .before .before .before .part-of .ensures))
-    (c .before .before .has-list3 .ensures ∙ ap hasList (c .before .before .before .part-of2 .ensures))
+    let default = c .before .before in
+    let own = default .before .before in
+    let parent = own .before .before in
+    let a = parent .before .before .before .before .args in
+    settings-found (now (a .e)) (now (a .p)) (now (a .b)) _ _ _ _ _
+    (parent .has-list .ensures)
+    (own .has-list2 .ensures ∙ ap hasList (own .before .part-of .ensures))
+    (default .has-list3 .ensures ∙ ap hasList (default .before .part-of2 .ensures))
     (ap (λ (k : ℕ). eqb k 1) (c .before .byte-in .ensures))
     (ap (λ (k : ℕ). eqb k 1) (c .byte-in2 .ensures))
 

@@ -20,14 +20,18 @@ rework-all-requires : tie.Need-rework-all-requires
 rework-all-requires c κs = simp length-set (omega (arith, c .before .before .before .before .lay .kept .0))
 
 same-length : tie.Need-same-length
-same-length c = c .before .before .before .before .rework-all .kept .0 ∙ simp length-set (c .before .before .before .before .before .before .before .before .before .lay .kept .0)
+same-length c =
+    let all = c .before .before .before .before in
+    all .rework-all .kept .0 ∙ simp length-set (all .before .before .before .before .before .lay .kept .0)
 
 same-length-2 : tie.Need-same-length-2
 same-length-2 c = search needs
 
 returns : tie.Need-returns
 unfolding settled
-returns c = rw (← c .before .before .before .before .before .before .before .before .before .lay .ensures) (c .before .before .before .before .rework-all .ensures)
+returns c =
+    let all = c .before .before .before .before in
+    rw (← all .before .before .before .before .before .lay .ensures) (all .rework-all .ensures)
 
 pub settle-spec : {M : Type 1} → statement M
 settle-spec =

@@ -60,7 +60,8 @@ returns c =
     let a = s .args in
     let p = s .pre in
     let t : length (a .t5) ≡ 16 = search needs in
-    block-laid _ t (p .0) (p .1 .0) (p .1 .1 .0) _ _ _ (now (a .w)) _ _ _ (p .1 .1 .1) (z .before .before .least .ensures) (z .before .bit .ensures) (z .bit2 .ensures)
+    block-laid _ t (p .0) (p .1 .0) (p .1 .1 .0) _ _ _ (now (a .w)) _ _ _ (p .1 .1 .1)
+    (z .before .before .least .ensures) (z .before .bit .ensures) (z .bit2 .ensures)
     (l .lay .ensures) (c .before .before .before .before .before .before .lay-owners .ensures) (c .before .before .lay-slot .ensures)
 
 pub lay-new-spec : {M : Type 1} → statement M

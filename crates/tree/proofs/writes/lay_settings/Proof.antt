@@ -32,18 +32,24 @@ add-lay-word-4 : tie.Need-add-lay-word-4
 add-lay-word-4 c = search needs
 
 lay-word-requires-4 : tie.Need-lay-word-requires-4
-lay-word-requires-4 c κs = omega (arith, simp length-set at (c .before .before .before .before .before .before .before .before .before .before .before .lay-word .kept .0))
+lay-word-requires-4 c κs =
+    let one = c .before .before .before .before .before .before .before .before .before .before .before in
+    omega (arith, simp length-set at (one .lay-word .kept .0))
 
 add-lay-slot : tie.Need-add-lay-slot
 add-lay-slot c = search needs
 
 lay-slot-requires : tie.Need-lay-slot-requires
 lay-slot-requires c κs =
-    let one = c .before .before .before .before .before .before .before .before .before .before .before .before .before .before .before in
+    let three = c .before .before .before .before .before .before .before in
+    let one = three .before .before .before .before .before .before .before .before in
     (one .before .before .before .before .pre .0, omega (arith, simp length-set at (one .lay-word .kept .0)))
 
 same-length : tie.Need-same-length
-same-length c = omega (arith, simp length-set at (c .before .before .before .before .before .before .before .before .before .before .before .before .before .before .before .before .before .before .lay-word .kept .0))
+same-length c =
+    let four = c .before .before .before .before .before .before in
+    let one = four .before .before .before .before .before .before .before .before .before .before .before .before in
+    omega (arith, simp length-set at (one .lay-word .kept .0))
 
 returns : tie.Need-returns
 returns c =
