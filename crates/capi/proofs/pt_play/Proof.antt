@@ -17,9 +17,10 @@ same-length : tie.Need-same-length
 same-length c = search needs
 
 returns : tie.Need-returns
-returns c =
-    let s = c .before .before .before .play .ensures in
-    (c .put-answer .ensures ∙ ap (λ (x : Answer). placesOf (valuesOf x)) (s .0), s .1)
+returns c = (
+  c .put-answer .ensures ∙ ap (λ (x : Answer). placesOf (valuesOf x)) (c .before .before .before .play .ensures .0),
+  c .before .before .before .play .ensures .1,
+)
 
 pub pt-play-spec : {M : Type 1} → statement M
 pt-play-spec = tie.close (tie.spec play-requires put-answer-requires same-length returns)

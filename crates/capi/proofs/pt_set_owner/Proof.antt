@@ -17,9 +17,10 @@ same-length : tie.Need-same-length
 same-length c = search needs
 
 returns : tie.Need-returns
-returns c =
-    let s = c .before .before .before .set-owner .ensures in
-    (c .put-answer .ensures ∙ ap (λ (x : Answer). placesOf (valuesOf x)) (s .0), s .1)
+returns c = (
+  c .put-answer .ensures ∙ ap (λ (x : Answer). placesOf (valuesOf x)) (c .before .before .before .set-owner .ensures .0),
+  c .before .before .before .set-owner .ensures .1,
+)
 
 pub pt-set-owner-spec : {M : Type 1} → statement M
 pt-set-owner-spec = tie.close (tie.spec set-owner-requires put-answer-requires same-length returns)

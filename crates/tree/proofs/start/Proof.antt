@@ -57,10 +57,9 @@ refused-requires-2 c κs = search needs
 returns-3 : tie.Need-returns-3
 unfolding startTo
 returns-3 c =
-    let l = c .before .before .before in
     settle
-    (need-yes 12 _ _ (ok-yes (l .before .before .before))
-    ∙ readable-good _ 3 _ _ (list-yes l)
+    (need-yes 12 _ _ (ok-yes (c .before .before .before .before .before .before))
+    ∙ readable-good _ 3 _ _ (list-yes (c .before .before .before))
     ∙ need-no 8 _ _ (refused (c .before .before .short .ensures) (c .before .if3 .taken)))
     (c .refused2 .ensures) refl
 
@@ -81,9 +80,10 @@ same-length c = search needs
 returns-4 : tie.Need-returns-4
 unfolding startTo
 returns-4 c =
-    let s = c .before .before .before .before .before in
-    let l = s .before .before in
-    settle (need-yes 12 _ _ (ok-yes (l .before .before .before)) ∙ readable-good _ 3 _ _ (list-yes l) ∙ need-yes 8 _ _ (short-yes s))
+    settle
+    (need-yes 12 _ _ (ok-yes (c .before .before .before .before .before .before .before .before .before .before))
+    ∙ readable-good _ 3 _ _ (list-yes (c .before .before .before .before .before .before .before))
+    ∙ need-yes 8 _ _ (short-yes (c .before .before .before .before .before)))
     (c .zeros .ensures) (c .before .before .before .empty .ensures)
 
 pub start-spec : {M : Type 1} → statement M

@@ -31,7 +31,8 @@ same-length-3 c = search needs
 returns : tie.Need-returns
 returns c =
     finish-some _ _ _ _ _ _ _ (omega arith)
-    (let made = c .before .before .before .before .before .before .before .before in made .before .before .before .before .before .change-copy .ensures .1 (made .if1 .taken))
+    (let made = c .before .before .before .before .before .before .before .before in
+    made .before .before .before .before .before .change-copy .ensures .1 (made .if1 .taken))
     (c .before .before .before .before .before .put .ensures) (c .before .slot .ensures) (c .told .ensures)
 
 same-length-4 : tie.Need-same-length-4

@@ -71,11 +71,14 @@ steps-ok-requires c κs = search needs
 returns-4 : tie.Need-returns-4
 unfolding formed
 returns-4 c =
-    let o = c .before .before .before in
-    let s = o .before .before .before in
-    simp (head-yes (s .before .before .before), settings-yes s, passed (objects-here (o .before)) (o .if3 .left))
+    simp (
+      head-yes (c .before .before .before .before .before .before .before .before .before),
+      settings-yes (c .before .before .before .before .before .before),
+      passed (objects-here (c .before .before .before .before)) (c .before .before .before .if3 .left),
+    )
     (c .steps-ok .ensures
-    ∙ steps-are _ (c .before .before .number-in2 .ensures .0) (c .before .number-in3 .ensures .0) (o .before .before .number-in .ensures .0))
+    ∙ steps-are _ (c .before .before .number-in2 .ensures .0) (c .before .number-in3 .ensures .0)
+    (c .before .before .before .before .before .number-in .ensures .0))
 
 pub formed-spec : {M : Type 1} → statement M
 formed-spec =

@@ -2,7 +2,7 @@
 use borrow.Author.Needs.{needs}
 use mathlib.Core.Path.{_≡_, ap, _∙_}
 use mathlib.Core.List.{List}
-use mathlib.Core.Bool.{true}
+use mathlib.Core.Bool.{Bool, true}
 use Prim.Native.Nat.{ℕ}
 use denote.Ref.{now}
 use Rattle.tree.specs.Held.{slotOk, blockOk, parentOf}
@@ -22,12 +22,13 @@ block-yes c = passed (c .before .block-ok .ensures ∙ ap blockOk (c .before .be
 parent-here : (c : tie.After-number-in) → c .number-in .result ≡ parentOf (own-here (c .before .before .before .before .before))
 parent-here c = c .number-in .ensures .0 ∙ ap (λ (b : List ℕ). parentOf b) (c .before .before .before .own .ensures)
 
+-- the object has its place below such a parent
+abbrev placed-by : tie.Start → ℕ → Bool
+placed-by s parent = placed 255 (λ j. own j (now (s .args .r))) (s .args .i) parent
+
 placed-here : (c : tie.After-placed)
-    → let s = c .before .before .before .before .before .before in
-    c .placed .result ≡ placed 255 (λ j. own j (now (s .args .r))) (s .args .i) (parentOf (own-here s))
-placed-here c =
-    let a = c .before .before .before .before .before .before .args in
-    c .placed .ensures ∙ ap (placed 255 (λ j. own j (now (a .r))) (a .i)) (parent-here (c .before))
+    → let s = c .before .before .before .before .before .before in c .placed .result ≡ placed-by s (parentOf (own-here s))
+placed-here c = c .placed .ensures ∙ ap (placed-by (c .before .before .before .before .before .before)) (parent-here (c .before))
 
 own-requires : tie.Need-own-requires
 own-requires c κs = search needs

@@ -2,7 +2,7 @@
 use borrow.Author.Needs.{needs}
 use native.Mathlib.Omega.{arith}
 use mathlib.Core.Path.{_≡_, ap, _∙_}
-use mathlib.Core.Bool.{true}
+use mathlib.Core.Bool.{Bool, true}
 use Prim.Native.Nat.{ℕ}
 use denote.Ref.{now}
 use borrow.Author.Tests.{lt-ltb, le-ltb}
@@ -17,12 +17,13 @@ use Rattle.tree.proofs.tests.add_fault.Tie as tie
 formed-yes : (c : tie.Else1) → formed (now (c .before .before .before .args .r)) ≡ true
 formed-yes c = passed (c .before .formed .ensures) (c .if1 .left)
 
+-- the parent that is asked for has a place among so many objects
+abbrev placed-by : tie.Start → ℕ → Bool
+placed-by s n = placed nobody (λ j. own j (now (s .args .r))) n (s .args .parent)
+
 placed-here : (c : tie.After-placed)
-    → let a = c .before .before .before .before .before .args in
-    c .placed .result ≡ placed nobody (λ j. own j (now (a .r))) (objects (now (a .r))) (a .parent)
-placed-here c =
-    let a = c .before .before .before .before .before .args in
-    c .placed .ensures ∙ ap (λ (n : ℕ). placed nobody (λ j. own j (now (a .r))) n (a .parent)) (c .before .number-in .ensures .0)
+    → let s = c .before .before .before .before .before in c .placed .result ≡ placed-by s (objects (now (s .args .r)))
+placed-here c = c .placed .ensures ∙ ap (placed-by (c .before .before .before .before .before)) (c .before .number-in .ensures .0)
 
 formed-requires : tie.Need-formed-requires
 formed-requires c κs = search needs
