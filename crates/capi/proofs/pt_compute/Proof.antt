@@ -13,6 +13,7 @@ use Rattle.capi.specs.Places.{placesOf, settingsOf, mappingOf}
 use Rattle.capi.proofs.pt_compute.Statement.{statement}
 use Rattle.capi.proofs.pt_compute.Tie as tie
 
+-- as the function was entered
 abbrev start : tie.After-compute → tie.Start
 start c = c .before .before .before .before .before .before .before .before .before .before .before
 

@@ -13,6 +13,7 @@ use Rattle.script.proofs.play_in.Tie as tie
 head-yes : (c : tie.Else1) → headOk (now (c .before .before .before .before .before .args .script)) ≡ true
 head-yes c = sym (c .before .head-ok .ensures) ∙ not-false _ (c .if1 .left)
 
+-- as the function was entered
 abbrev start : tie.After-feed → tie.Start
 start c = c .before .before .before .before .before .before .before .before .before .before .before .before
 

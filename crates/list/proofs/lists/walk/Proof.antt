@@ -25,24 +25,20 @@ Inv-loop list rev count at₀ left₀ at left =
 abbrev μ-loop : tie.MeasureT-loop
 μ-loop list rev count at₀ left₀ at left = left
 
+-- the bytes that a turn looks at
+abbrev bytes-here : tie.At-loop Inv-loop μ-loop → List ℕ
+bytes-here l = drop (l .loop .at) (now (l .before .before .args .list))
+
 -- what the call of a turn found, as the definition has it
 bad-here : (c : tie.After-number Inv-loop μ-loop)
-    → let l = c .before .before .before .before in
-    let a = l .before .before .args in
-    entryOf access (a .rev) (drop (l .loop .at) (now (a .list))) ≡ Bad (c .number .given .0 .0)
+    → let l = c .before .before .before .before in entryOf access (l .before .before .args .rev) (bytes-here l) ≡ Bad (c .number .given .0 .0)
 bad-here c = sym (c .before .before .entry-at .ensures) ∙ c .number .given .1
 
--- the bytes that the turn looks at
-abbrev bytes-here : tie.After-e Inv-loop μ-loop → List ℕ
-bytes-here c =
-    let l = c .before .before .before .before in
-    drop (l .loop .at) (now (l .before .before .args .list))
-
 good-here : (c : tie.After-e Inv-loop μ-loop)
-    → entryOf access (c .before .before .before .before .before .before .args .rev) (bytes-here c) ≡ Good (c .e .given .0 .0)
+    → let l = c .before .before .before .before in entryOf access (l .before .before .args .rev) (bytes-here l) ≡ Good (c .e .given .0 .0)
 good-here c = sym (c .before .before .entry-at .ensures) ∙ c .e .given .1
 
-size-is : (c : tie.After-e Inv-loop μ-loop) → c .e .given .0 .0 .size ≡ sizeOf (bytes-here c)
+size-is : (c : tie.After-e Inv-loop μ-loop) → c .e .given .0 .0 .size ≡ sizeOf (bytes-here (c .before .before .before .before))
 size-is c = ap (λ (e : Entry). e .size) (fields access _ _ _ (good-here c))
 
 size-fits : (c : tie.After-e Inv-loop μ-loop)

@@ -16,7 +16,7 @@ Inv-loop room n out₀ a b at₀ i₀ out at i = (i ≤ n) × Lined (shown room 
 abbrev μ-loop : tie.MeasureT-loop
 μ-loop room n out₀ a b at₀ i₀ out at i = n - i
 
--- from the loop back past the texts of the heading
+-- as the function was entered, from the loop back past the texts of the heading
 abbrev start : tie.At-loop Inv-loop μ-loop → tie.Start Inv-loop μ-loop
 start l =
     let number = l .before .before .before .before .before .before .before .before in

@@ -31,8 +31,8 @@ step-here c =
     let l = c .before .before .before in
     c .step-ok .ensures ∙ ap (stepOk (λ i. own i (now (l .before .before .args .r))) (l .loop .stand)) (c .before .step .ensures)
 
-stand-here : (c : tie.After-standing Inv-loop μ-loop) → let l = c .before .before .before .before .before in
-    c .standing .result ≡ standing (l .loop .stand) (looked-at l)
+stand-here : (c : tie.After-standing Inv-loop μ-loop)
+    → let l = c .before .before .before .before .before in c .standing .result ≡ standing (l .loop .stand) (looked-at l)
 stand-here c =
     let l = c .before .before .before .before .before in
     c .standing .ensures ∙ ap (λ (u : List ℕ). standing (l .loop .stand) u) (c .before .before .before .step .ensures)
