@@ -1,12 +1,14 @@
 # make play     plays SCRIPT with the program axs, which Rattle's kit alone proves and builds
 # make examples plays every script of examples/ and compares what is written
+# make c_examples builds every C program of examples/ with the library, runs it and compares what it writes
 # make test     the gate: everything is proved, run and compared (.ci/run)
 # make lib      libpipeteasel.a, for C and whatever calls C (include/pipeteasel.h)
 # make compare  the C library and axs against the independent second program: CASES fresh cases, TREES sequences, SCRIPTS scripts
 #               and PIPED scripts handed to axs in pieces, all from SEED
-# make hostile  CALLS calls of the C library with hostile bytes between guard pages, and some under valgrind where it is there
+# make hostile  CALLS calls of the C library with hostile bytes between guard pages, and some under valgrind
 # make cases    the stored cases and their answers anew, both by the second program
 # make bench    the table of docs/BENCH.md: instructions and times, library and second program (not a test)
+# The library and axs are for x86-64. On other machines C programs are built for x86-64 too, and run under the kit's emulator.
 
 SCRIPT ?= examples/document.axs
 CASES ?= 100000
@@ -17,11 +19,24 @@ SEED ?= 1
 CALLS ?= 1000000
 CARGO = cargo build --quiet --release --offline --target-dir target/cargo
 SECOND = target/cargo/release/second
+C99 = -std=c99 -Wall -Wextra -Werror -pedantic -Iinclude
+EMULATED = tools/emulated
 
-.PHONY: play axs examples test lib second compare hostile cases bench
+ifeq ($(shell uname -m),x86_64)
+CC = gcc
+AXS = target/bin/axs
+else
+# static, as the emulator has no C library but the kit's; compare can't link the library, and links a stand-in
+CC = x86_64-linux-gnu-gcc -static
+AXS = target/emulated/axs
+STAND_IN = stand_in
+export PIPETEASEL_LIB = target/emulated
+endif
+
+.PHONY: play axs examples c_examples test lib second stand_in compare hostile cases bench
 
 play: axs
-	@target/bin/axs <$(SCRIPT)
+	@$(EMULATED) target/bin/axs <$(SCRIPT)
 
 # what rt says goes to standard error, so that `make play` writes the program's text alone
 axs:
@@ -29,7 +44,16 @@ axs:
 
 examples: axs
 	@for script in examples/*.axs; do \
-		target/bin/axs <$$script | cmp - $${script%.axs}.out && echo "$$script: as expected" || exit 1; \
+		$(EMULATED) target/bin/axs <$$script | cmp - $${script%.axs}.out && echo "$$script: as expected" || exit 1; \
+	done
+
+# play_file is handed the document's script, whose text is that of axs
+c_examples: lib
+	@for program in read_list compute_list undo_tree play_script play_file; do \
+		$(CC) $(C99) examples/$$program.c -L. -lpipeteasel -o target/$$program || exit 1; \
+		expected=examples/$$program.out; [ $$program != play_file ] || expected=examples/document.out; \
+		$(EMULATED) target/$$program examples/document.axs >target/$$program.txt && diff target/$$program.txt $$expected || exit 1; \
+		echo "examples/$$program.c: as expected"; \
 	done
 
 test:
@@ -42,13 +66,23 @@ lib:
 second:
 	$(CARGO) --manifest-path second/Cargo.toml
 
-compare: lib axs
+# on machines other than x86-64: the library's functions, handed to a driver that runs under the emulator, and axs likewise
+stand_in: lib
+	mkdir -p target/emulated
+	$(CC) $(C99) -O2 compare/emulated/driver.c -L. -lpipeteasel -o target/emulated/driver
+	gcc $(C99) -O2 -DEMULATED='"$(CURDIR)/tools/emulated"' -DDRIVER='"$(CURDIR)/target/emulated/driver"' \
+		-c compare/emulated/stand_in.c -o target/emulated/stand_in.o
+	ar rcs target/emulated/libpipeteasel.a target/emulated/stand_in.o
+	printf '#!/bin/sh\nexec "%s/tools/emulated" "%s/target/bin/axs" "$$@"\n' "$(CURDIR)" "$(CURDIR)" >target/emulated/axs
+	chmod +x target/emulated/axs
+
+compare: lib axs $(STAND_IN)
 	$(CARGO) --manifest-path compare/Cargo.toml
 	target/cargo/release/compare list --cases $(CASES) --seed $(SEED)
 	target/cargo/release/compare compute --cases $(CASES) --seed $(SEED)
 	target/cargo/release/compare tree --cases $(TREES) --seed $(SEED)
 	target/cargo/release/compare script --cases $(SCRIPTS) --seed $(SEED)
-	target/cargo/release/compare program target/bin/axs --cases $(PIPED) --seed $(SEED)
+	target/cargo/release/compare program $(AXS) --cases $(PIPED) --seed $(SEED)
 
 # the sanitizers watch the C side; guard pages and valgrind watch the library
 HOSTILE = gcc -std=c99 -Wall -Wextra -Werror -pedantic -D_DEFAULT_SOURCE -O1 -g -Iinclude hostile/*.c -L. -lpipeteasel
