@@ -22,7 +22,8 @@ SECOND = target/cargo/release/second
 C99 = -std=c99 -Wall -Wextra -Werror -pedantic -Iinclude
 EMULATED = tools/emulated
 
-ifeq ($(shell uname -m),x86_64)
+MACHINE := $(shell uname -m)
+ifeq ($(MACHINE),x86_64)
 CC = gcc
 AXS = target/bin/axs
 else
@@ -84,13 +85,23 @@ compare: lib axs $(STAND_IN)
 	target/cargo/release/compare script --cases $(SCRIPTS) --seed $(SEED)
 	target/cargo/release/compare program $(AXS) --cases $(PIPED) --seed $(SEED)
 
-# the sanitizers watch the C side; guard pages and valgrind watch the library
-HOSTILE = gcc -std=c99 -Wall -Wextra -Werror -pedantic -D_DEFAULT_SOURCE -O1 -g -Iinclude hostile/*.c -L. -lpipeteasel
+# guard pages and valgrind watch the library; the sanitizers watch the C side
+HOSTILE = $(CC) $(C99) -D_DEFAULT_SOURCE -O1 -g hostile/*.c -L. -lpipeteasel
+ifeq ($(MACHINE),x86_64)
 hostile: lib
 	$(HOSTILE) -fsanitize=address,undefined -fno-sanitize-recover=all -o target/hostile
+	target/hostile touch | grep -q 'touched byte 0 behind'
 	target/hostile $(CALLS) $(SEED)
 	$(HOSTILE) -o target/hostile_plain
-	if command -v valgrind >/dev/null; then valgrind --error-exitcode=1 -q target/hostile_plain 3000 $(SEED) >target/hostile.txt; fi
+	valgrind --error-exitcode=1 -q target/hostile_plain 3000 $(SEED) >target/hostile.txt
+else
+# undefined behaviour is a trap there: the library that would tell of it can't be linked statically
+hostile: lib
+	$(HOSTILE) -fsanitize=undefined -fsanitize-undefined-trap-on-error -o target/hostile
+	$(EMULATED) target/hostile touch | grep -q 'touched byte 0 behind'
+	$(EMULATED) target/hostile $(CALLS) $(SEED)
+	@echo "not run on a machine of this kind, $(MACHINE): the address sanitizer and valgrind"
+endif
 
 cases: second
 	$(SECOND) cases list examples/lists.txt > crates/vectors_list/stdin

@@ -16,6 +16,7 @@ Case case_list, case_own, case_data, case_counts;
 
 /* In lists.c, for both: */
 void lend_answer(void);
+void lend_identities(uint32_t spoilt, int list);            /* owner and group; list: one that is lent already, or -1 */
 void check_places(uint32_t most_control);                   /* the answer's places but for their meaning */
 void check_list_refusal(uint32_t which, int list);          /* a refusal of 1 to 5 is the reader's of the same list */
 void check_reads(const uint8_t *list, const uint32_t *told); /* a list that was given out reads as done */

@@ -1,8 +1,10 @@
 /* Hands every call of the library random, cut, changed and well-formed bytes between guard pages, and checks that it reads and writes
  * nothing but what was lent, gives no answer outside document 01's table, and changes nothing that was lent where it refuses.
- * Usage: hostile [CALLS [SEED]]. The same two numbers make the same calls. Ends with 1 at the first fault. */
+ * Usage: hostile [CALLS [SEED]]. The same two numbers make the same calls. Ends with 1 at the first fault, and where a number that a
+ * call can give came less often than it must. `hostile touch` touches a guard page itself, which must be seen as a fault. */
 #include <stdio.h>
 #include <stdlib.h>
+#include <string.h>
 
 #include "lend.h"
 #include "make.h"
@@ -27,32 +29,52 @@ enum {
     SOME_BYTES = 1 << 1                       /* of pt_room: any size but 0 */
 };
 
-/* A call's weight is its share of 1,000. Cheap calls come often; calls on a tree cost more, as they look at the whole room. */
+/* A call's weight is its share of 1,000. Cheap calls come often; calls on a tree cost more, as they look at the whole room.
+ * How often each number must come in 1,000,000 calls is a quarter or a fifth of how often it does, whatever the seed. */
 static struct {
     const char *name;
     uint32_t weight;
-    uint32_t can_give;
     Case *run;
+    uint32_t can_give;
+    uint32_t least[NUMBERS];
     uint64_t calls, came[NUMBERS];
 } calls[] = {
-    {"pt_identity", 150, DONE | CREATOR_OWNER_OR_GROUP | IDENTITY, case_identity, 0, {0}},
-    {"pt_read", 250, DONE | LIST | NO_ROOM, case_read, 0, {0}},
-    {"pt_compute", 170, DONE | LIST | IDENTITY | TYPES_7 | NO_ROOM | RULE, case_compute, 0, {0}},
-    {"pt_room", 50, DONE | SOME_BYTES, case_room, 0, {0}},
-    {"pt_start", 35, DONE | LIST | NO_ROOM | RULE, case_start, 0, {0}},
-    {"pt_add", 50, DONE | LIST | IDENTITY | NO_ROOM | NO_OBJECT | FULL | NO_TREE, case_add, 0, {0}},
-    {"pt_set_list", 35, DONE | LIST | NO_ROOM | NO_OBJECT | NO_TREE, case_set_list, 0, {0}},
-    {"pt_set_mark", 35, DONE | NO_ROOM | NO_OBJECT | NO_TREE, case_set_mark, 0, {0}},
-    {"pt_set_owner", 35, DONE | IDENTITY | NO_ROOM | NO_OBJECT | NO_TREE, case_set_owner, 0, {0}},
-    {"pt_undo", 40, DONE | NO_ROOM | NO_STEP | NO_TREE, case_undo, 0, {0}},
-    {"pt_list", 30, DONE | NO_ROOM | NO_OBJECT | NO_TREE, case_list, 0, {0}},
-    {"pt_own", 30, DONE | NO_ROOM | NO_OBJECT | NO_TREE, case_own, 0, {0}},
-    {"pt_data", 30, DONE | NO_ROOM | NO_OBJECT | NO_TREE, case_data, 0, {0}},
-    {"pt_counts", 30, DONE | NO_TREE, case_counts, 0, {0}},
-    {"pt_play", 30, DONE | NO_ROOM, case_play, 0, {0}},
+    {"pt_identity", 140, case_identity, DONE | CREATOR_OWNER_OR_GROUP | IDENTITY,
+     {[0] = 21000, [1] = 1800, [2] = 1300, [6] = 9600}, 0, {0}},
+    {"pt_read", 250, case_read, DONE | LIST | NO_ROOM,
+     {[0] = 29000, [1] = 6600, [2] = 9000, [3] = 2600, [4] = 3300, [5] = 3200, [8] = 8300}, 0, {0}},
+    {"pt_compute", 170, case_compute, DONE | LIST | IDENTITY | TYPES_7 | NO_ROOM | RULE,
+     {[0] = 20000, [1] = 1700, [2] = 850, [3] = 260, [4] = 300, [5] = 280, [6] = 3300, [7] = 3900, [8] = 9300, [12] = 1700}, 0, {0}},
+    {"pt_room", 50, case_room, DONE | SOME_BYTES,
+     {[0] = 5300, [1] = 7100}, 0, {0}},
+    {"pt_start", 35, case_start, DONE | LIST | NO_ROOM | RULE,
+     {[0] = 5300, [1] = 85, [2] = 120, [3] = 35, [4] = 45, [5] = 45, [8] = 70, [12] = 2700}, 0, {0}},
+    {"pt_add", 60, case_add, DONE | LIST | IDENTITY | NO_ROOM | NO_OBJECT | FULL | NO_TREE,
+     {[0] = 4100, [1] = 120, [2] = 160, [3] = 40, [4] = 60, [5] = 60, [6] = 360, [8] = 65, [9] = 3500, [10] = 4200, [13] = 1600}, 0, {0}},
+    {"pt_set_list", 35, case_set_list, DONE | LIST | NO_ROOM | NO_OBJECT | NO_TREE,
+     {[0] = 5300, [1] = 150, [2] = 190, [3] = 55, [4] = 75, [5] = 60, [8] = 85, [9] = 1600, [13] = 970}, 0, {0}},
+    {"pt_set_mark", 35, case_set_mark, DONE | NO_ROOM | NO_OBJECT | NO_TREE,
+     {[0] = 5800, [8] = 50, [9] = 1600, [13] = 980}, 0, {0}},
+    {"pt_set_owner", 35, case_set_owner, DONE | IDENTITY | NO_ROOM | NO_OBJECT | NO_TREE,
+     {[0] = 5400, [6] = 520, [8] = 50, [9] = 1600, [13] = 1000}, 0, {0}},
+    {"pt_undo", 40, case_undo, DONE | NO_ROOM | NO_STEP | NO_TREE,
+     {[0] = 6400, [8] = 70, [11] = 2300, [13] = 1100}, 0, {0}},
+    {"pt_list", 30, case_list, DONE | NO_ROOM | NO_OBJECT | NO_TREE,
+     {[0] = 3500, [8] = 1600, [9] = 1400, [13] = 840}, 0, {0}},
+    {"pt_own", 30, case_own, DONE | NO_ROOM | NO_OBJECT | NO_TREE,
+     {[0] = 4000, [8] = 1100, [9] = 1400, [13] = 860}, 0, {0}},
+    {"pt_data", 30, case_data, DONE | NO_ROOM | NO_OBJECT | NO_TREE,
+     {[0] = 3200, [8] = 1800, [9] = 1400, [13] = 850}, 0, {0}},
+    {"pt_counts", 30, case_counts, DONE | NO_TREE,
+     {[0] = 6600, [13] = 820}, 0, {0}},
+    {"pt_play", 30, case_play, DONE | NO_ROOM,
+     {[0] = 4700, [8] = 2700}, 0, {0}},
 };
 
 enum { CALLS = sizeof calls / sizeof *calls };
+
+/* Runs of fewer calls are too short to ask how often each number came. */
+enum { MILLION = 1000000, FEWEST_ASKED = 100000, LEAST_LENT_TWICE = 27000 };
 
 static int choose_call(void)
 {
@@ -64,6 +86,11 @@ static int choose_call(void)
     return i;
 }
 
+static int can_give(int i, int number)
+{
+    return calls[i].can_give >> number & 1;
+}
+
 static void run_one(void)
 {
     int i = choose_call();
@@ -71,11 +98,22 @@ static void run_one(void)
 
     fault_call = calls[i].name;
     number = calls[i].run();
-    if (number >= NUMBERS || !(calls[i].can_give >> number & 1))
+    if (number >= NUMBERS || !can_give(i, (int)number))
         fault("number %u isn't one of this call's", number);
     take_back();
     calls[i].calls++;
     calls[i].came[number]++;
+}
+
+/* Each number that a call can give is asked for, and no other. */
+static void check_table(void)
+{
+    int i, number;
+
+    for (i = 0; i < CALLS; i++)
+        for (number = 0; number < NUMBERS; number++)
+            if (can_give(i, number) != (calls[i].least[number] > 0))
+                fault("the table asks for number %d of %s, or doesn't, against document 01", number, calls[i].name);
 }
 
 /* Numbers that a call can give and didn't are shown with a 0. */
@@ -87,10 +125,59 @@ static void print_tally(void)
     for (i = 0; i < CALLS; i++) {
         printf("%-12s %7llu calls:", calls[i].name, (unsigned long long)calls[i].calls);
         for (number = 0; number < NUMBERS; number++)
-            if (calls[i].can_give >> number & 1)
+            if (can_give(i, number))
                 printf("  %d: %llu", number, (unsigned long long)calls[i].came[number]);
         printf("\n");
     }
+    printf("%llu ranges lent for a second parameter\n", (unsigned long long)lent_twice);
+}
+
+/* How often something must come in this many calls: at least once. */
+static uint64_t least_in(uint64_t made, uint64_t in_a_million)
+{
+    uint64_t least = in_a_million * made / MILLION;
+
+    return least ? least : 1;
+}
+
+static int is_seldom(int i, int number, uint64_t made)
+{
+    uint64_t came = calls[i].came[number], least = least_in(made, calls[i].least[number]);
+
+    if (can_give(i, number) && came < least) {
+        printf("too seldom: %s gave %d %llu times, and must %llu times\n", calls[i].name, number, (unsigned long long)came, (unsigned long long)least);
+        return 1;
+    }
+    return 0;
+}
+
+/* How much came less often than it must; each is named. */
+static int count_seldom(uint64_t made)
+{
+    int i, number, seldom = 0;
+
+    if (made < FEWEST_ASKED) {
+        printf("fewer than %d calls: how often each number came is not asked\n", FEWEST_ASKED);
+        return 0;
+    }
+    if (lent_twice < least_in(made, LEAST_LENT_TWICE)) {
+        printf("too seldom: a range was lent for a second parameter\n");
+        seldom++;
+    }
+    for (i = 0; i < CALLS; i++)
+        for (number = 0; number < NUMBERS; number++)
+            seldom += is_seldom(i, number, made);
+    return seldom;
+}
+
+static int touch_a_guard(void)
+{
+    const volatile uint8_t *behind;
+
+    lend(FIRST, PAGE);
+    behind = lent[FIRST].at + PAGE;
+    printf("a touched guard page wasn't seen, and held %u\n", (unsigned)*behind);
+    return 0;
 }
 
 int main(int argc, char **argv)
@@ -99,11 +186,16 @@ int main(int argc, char **argv)
 
     fault_seed = argc > 2 ? strtoull(argv[2], NULL, 10) : 1;
     make_seed(fault_seed);
+    check_table();
     lend_prepare();
+    if (argc > 1 && !strcmp(argv[1], "touch"))
+        return touch_a_guard();
     rooms_prepare();
     for (fault_case = 1; fault_case <= wanted; fault_case++)
         run_one();
     print_tally();
+    if (count_seldom(wanted))
+        return 1;
     printf("%llu calls, 0 faults\n", (unsigned long long)wanted);
     return 0;
 }

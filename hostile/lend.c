@@ -16,6 +16,7 @@ static const char *const lent_names[LENT_KINDS] = {"first list or bytes", "secon
 static uint8_t slack[LEND_MOST];
 
 Lent lent[LENT_KINDS];
+uint64_t lent_twice;
 const char *fault_call = "none";
 uint64_t fault_case, fault_seed;
 
@@ -127,6 +128,23 @@ void lend_filled(int which, size_t len)
 {
     make_bytes(lent[which].before, len);
     lend(which, len);
+}
+
+void lend_part(int which, int of, size_t from, size_t len)
+{
+    Lent *l = &lent[which];
+
+    memcpy(l->before, lent[of].before + from, len);
+    l->at = lent[of].at ? lent[of].at + from : NULL;
+    l->len = len;
+    lent_twice++;
+}
+
+void lend_again(int which, int of)
+{
+    size_t whole = lent[of].len, from = chance(6) ? pick((uint32_t)whole + 1) : 0;
+
+    lend_part(which, of, from, from ? pick((uint32_t)(whole - from) + 1) : whole);
 }
 
 uint32_t *answer(void)

@@ -23,10 +23,14 @@ typedef struct {
 } Lent;
 
 extern Lent lent[LENT_KINDS];
+extern uint64_t lent_twice; /* how often a range was lent for a second parameter */
 
 void lend_prepare(void);
 void lend(int which, size_t len);
 void lend_filled(int which, size_t len); /* the range holds random bytes: something that a call will write */
+/* Lends a part of what is lent already for another parameter. It is watched as the other's, and only for what a call reads. */
+void lend_part(int which, int of, size_t from, size_t len);
+void lend_again(int which, int of);      /* the whole of it, at times any part */
 void take_back(void);                    /* a fault where anything changed but what the case allows */
 
 /* The lent answer, eight numbers. */

@@ -17,6 +17,25 @@ void lend_answer(void)
     lent[ANSWER].may_change = 32;
 }
 
+/* The last twelve bytes of a list are often a SID. */
+static int lend_list_end(int which, int list)
+{
+    if (list < 0 || lent[list].len < 20 || !chance(40))
+        return 0;
+    lend_part(which, list, lent[list].len - 12, 12);
+    return 1;
+}
+
+void lend_identities(uint32_t spoilt, int list)
+{
+    if (!lend_list_end(OWNER, list))
+        lend(OWNER, make_identity(lent[OWNER].before, spoilt));
+    if (chance(6))
+        lend_again(GROUP, OWNER);
+    else if (!lend_list_end(GROUP, list))
+        lend(GROUP, make_identity(lent[GROUP].before, spoilt));
+}
+
 void check_places(uint32_t most_control)
 {
     const uint32_t *a = answer();
@@ -179,10 +198,12 @@ static void lend_compute(void)
     int list;
 
     for (list = FIRST; list <= THIRD; list++)
-        lend(list, make_list(lent[list].before, 800, 20));
+        if (list != FIRST && chance(6))
+            lend_again(list, (int)pick((uint32_t)list));
+        else
+            lend(list, make_list(lent[list].before, 800, 20));
     lend(TYPES, make_types(lent[TYPES].before));
-    lend(OWNER, make_identity(lent[OWNER].before, 30));
-    lend(GROUP, make_identity(lent[GROUP].before, 30));
+    lend_identities(30, (int)pick(3));
     make_mapping(lent[MAPPING].before);
     lend(MAPPING, 16);
     lend_answer();

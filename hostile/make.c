@@ -190,6 +190,22 @@ size_t make_good_list(uint8_t *to, size_t most, unsigned entries)
     return at;
 }
 
+/* What a good entry's tests are to find: its type (3), a bit of its flags or of its object word (4), its SID's first two bytes (5). */
+static void spoil_on_purpose(uint8_t *entry)
+{
+    int is_object = entry[0] > 1;
+    uint8_t *sid = entry + (is_object ? 12 + 16 * (entry[8] & 1) + 16 * (entry[8] >> 1) : 8);
+
+    switch (pick(6)) {
+    case 0: entry[0] = (uint8_t)(2 + pick(3)); break;
+    case 1: entry[1] |= (uint8_t)(32 << pick(3)); break;
+    case 2: entry[is_object ? 8 + pick(4) : 1] |= (uint8_t)(32 << pick(3)); break;
+    case 3: sid[0] = (uint8_t)(2 * pick(128)); break;
+    case 4: sid[1] = (uint8_t)(16 + pick(240)); break;
+    default: entry[0] = (uint8_t)(is_object ? 7 + pick(249) : 5 + pick(2)); /* 5 and 6 are none under revision 2 */
+    }
+}
+
 /* One of the bytes that an entry's tests look at: its head, its word, its SID's first two bytes. */
 static void spoil_an_entry(uint8_t *list, size_t len)
 {
@@ -199,14 +215,16 @@ static void spoil_an_entry(uint8_t *list, size_t len)
 
     while (skip-- && at + 4 <= len && at + get16(list + at + 2) + 4u <= len)
         at += get16(list + at + 2);
-    if (at + place < len)
+    if (at < len && chance(2))
+        spoil_on_purpose(list + at);
+    else if (at + place < len)
         list[at + place] = (uint8_t)(chance(2) ? list[at + place] + 1 + pick(4) : next() >> 56);
 }
 
 /* The list has at least 8 bytes. */
 static size_t spoil_list(uint8_t *list, size_t len)
 {
-    switch (pick(12)) {
+    switch (pick(16)) {
     case 0:
         return pick((uint32_t)len);
     case 1:

@@ -131,12 +131,6 @@ uint32_t case_start(void)
     return answer()[0];
 }
 
-static void lend_identities(uint32_t spoilt)
-{
-    lend(OWNER, make_identity(lent[OWNER].before, spoilt));
-    lend(GROUP, make_identity(lent[GROUP].before, spoilt));
-}
-
 uint32_t case_add(void)
 {
     uint32_t traits = (uint32_t)next() & ~1u, parent;
@@ -147,8 +141,8 @@ uint32_t case_add(void)
         traits |= PT_IS_CONTAINER;
     make_guid(lent[TYPES].before);
     lend(TYPES, 16);
-    lend_identities(40);
-    lend(SECOND, make_list(lent[SECOND].before, chance(6) ? 1200 : 200, 10));
+    lend(SECOND, make_list(lent[SECOND].before, chance(6) ? 1200 : 200, 4));
+    lend_identities(40, SECOND);
     pt_add(lent[ROOM].at, lent[ROOM].len, parent, traits, lent[TYPES].at, lent[OWNER].at, lent[OWNER].len, lent[GROUP].at, lent[GROUP].len,
            lent[SECOND].at, lent[SECOND].len, answer());
     return after_change(objects_before(), 1, SECOND);
@@ -181,7 +175,7 @@ uint32_t case_set_owner(void)
 
     lend_room();
     object = choose_object();
-    lend_identities(20);
+    lend_identities(20, -1);
     pt_set_owner(lent[ROOM].at, lent[ROOM].len, object, lent[OWNER].at, lent[OWNER].len, lent[GROUP].at, lent[GROUP].len, answer());
     return after_change(object, 0, -1);
 }

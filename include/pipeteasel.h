@@ -1,7 +1,8 @@
 /* Pipeteasel: access lists whose inheritance, undo and refusals are proved.
  *
  * Every call checks what it is handed, whatever bytes that is. A null pointer is allowed where its length is 0.
- * Lent ranges never overlap. Nothing that was lent changes where a call refuses; the answer itself is written always.
+ * Ranges that a call may change overlap no other; those that it only reads may be the same or overlap.
+ * Nothing that was lent changes where a call refuses; the answer itself is written always.
  * The tree's calls that change it use some 240 KB of stack.
  *
  * An answer is eight numbers:
