@@ -2,6 +2,8 @@
 # make examples plays every script of examples/ and compares what is written
 # make c_examples builds every C program of examples/ with the library, runs it and compares what it writes
 # make test     the gate: everything is proved, run and compared (.ci/run)
+# make quick    for work between commits, and no verdict: what changed is proved, stored cases, 5,000 comparisons a layer, no edits
+# make edits    every edit, of crates/*/must-fail and of docs/edits: refused by the prover, and seen to change an answer
 # make lib      libpipeteasel.a, for C and whatever calls C (include/pipeteasel.h)
 # make compare  the C library and axs against the independent second program: CASES fresh cases, TREES sequences, SCRIPTS scripts
 #               and PIPED scripts handed to axs in pieces, all from SEED
@@ -34,7 +36,7 @@ STAND_IN = stand_in
 export PIPETEASEL_LIB = target/emulated
 endif
 
-.PHONY: play axs examples c_examples test lib second stand_in compare hostile cases bench
+.PHONY: play axs examples c_examples test quick edits lib second stand_in compare hostile cases bench
 
 play: axs
 	@$(EMULATED) target/bin/axs <$(SCRIPT)
@@ -60,7 +62,20 @@ c_examples: lib
 test:
 	bash .ci/run
 
-lib:
+quick:
+	tools/claims
+	rt check
+	$(MAKE) --no-print-directory compare CASES=5000 TREES=5000 SCRIPTS=5000 PIPED=100
+	@echo "quick: all held; no edit was tried, and the gate asks for more: no verdict"
+
+edits: second
+	rt check
+	tools/edits
+
+# made anew where something of the layers has changed
+LAYERS = list inherit tree script capi
+lib: libpipeteasel.a
+libpipeteasel.a: crates.txt $(shell find $(LAYERS:%=crates/%) -type f)
 	rt staticlib capi
 	cp target/staticlib/libcapi.a libpipeteasel.a
 
