@@ -119,14 +119,8 @@ hostile: lib
 endif
 
 cases: second
-	$(SECOND) cases list examples/lists.txt > crates/vectors_list/stdin
-	$(SECOND) answer < crates/vectors_list/stdin > crates/vectors_list/stdout
-	$(SECOND) cases inherit > crates/vectors_inherit/stdin
-	$(SECOND) answer < crates/vectors_inherit/stdin > crates/vectors_inherit/stdout
-	$(SECOND) cases tree > crates/vectors_tree/stdin
-	$(SECOND) answer < crates/vectors_tree/stdin > crates/vectors_tree/stdout
-	$(SECOND) cases script > crates/vectors_script/stdin
-	$(SECOND) answer < crates/vectors_script/stdin > crates/vectors_script/stdout
+	$(SECOND) cases all examples/lists.txt > crates/vectors/stdin
+	$(SECOND) answer < crates/vectors/stdin > crates/vectors/stdout
 
 bench: lib
 	bash bench/run

@@ -10,6 +10,7 @@ use second::tally::Tally;
 use second::{hex, script};
 
 const USAGE: &str = "usage:
+  second cases all EXAMPLES     write the stored cases of every layer
   second cases list EXAMPLES    write the stored cases for reading
   second cases inherit          write the stored cases for the computation
   second cases tree             write the stored calls on a tree
@@ -25,6 +26,9 @@ fn main() -> ExitCode {
     let arguments: Vec<String> = std::env::args().skip(1).collect();
     let words: Vec<&str> = arguments.iter().map(String::as_str).collect();
     let outcome = match words[..] {
+        ["cases", "all", path] => {
+            read_examples(path).and_then(|examples| write_cases(&cases::all(&examples)))
+        }
         ["cases", "list", path] => {
             read_examples(path).and_then(|examples| write_cases(&cases::list::all(&examples)))
         }

@@ -15,6 +15,8 @@ pub use playing::LONGEST_SCRIPT;
 const KIND_READ: u8 = 1;
 const KIND_IDENTITY: u8 = 2;
 const KIND_COMPUTE: u8 = 3;
+/// The last byte of every case file, so that a cut one is seen.
+const END: u8 = 0;
 
 #[derive(Clone, Debug, PartialEq, Eq, Hash)]
 pub enum Case {
@@ -46,20 +48,14 @@ impl Case {
     }
 }
 
-/// Calls of a tree and scripts are closed by an end; other records need none.
+/// The records of any layers, and the end.
 pub fn encode_all(cases: &[Case]) -> Vec<u8> {
     let mut file = Vec::new();
     for case in cases {
         case.encode(&mut file);
     }
-    if ask_for_an_end(cases) {
-        file.push(calls::END);
-    }
+    file.push(END);
     file
-}
-
-fn ask_for_an_end(cases: &[Case]) -> bool {
-    matches!(cases.last(), Some(Case::Tree(_) | Case::Play { .. }))
 }
 
 /// Takes all records of a case file, or says what is wrong with one.
@@ -67,9 +63,9 @@ pub fn decode_all(mut file: &[u8]) -> Result<Vec<Case>, String> {
     let whole = file.len();
     let mut cases = Vec::new();
     loop {
-        match (file, ask_for_an_end(&cases)) {
-            ([], false) | ([calls::END], true) => return Ok(cases),
-            ([], true) => return Err("no end".to_string()),
+        match file {
+            [] => return Err("no end".to_string()),
+            [END] => return Ok(cases),
             _ => {}
         }
         let at = whole - file.len();
@@ -162,7 +158,34 @@ mod tests {
         let file = encode_all(&cases);
         assert_eq!(file[..11], [1, 0, 3, 0, 3, 0, 0, 0, 1, 2, 3]);
         assert_eq!(decode_all(&file).unwrap(), cases);
-        assert!(decode_all(&file[..10]).is_err());
+        for cut in 0..file.len() {
+            assert!(decode_all(&file[..cut]).is_err(), "cut at {cut}");
+        }
+    }
+
+    #[test]
+    fn layers_may_be_mixed() {
+        let cases = vec![
+            Case::Tree(Call::Counts),
+            Case::Identity(vec![1]),
+            Case::Play {
+                script: vec![],
+                out_length: 0,
+            },
+            Case::Tree(Call::Undo),
+            Case::read(0, vec![]),
+        ];
+        let file = encode_all(&cases);
+        assert_eq!(decode_all(&file).unwrap(), cases);
+        assert_eq!(answer_lines(&cases).lines().count(), cases.len());
+    }
+
+    #[test]
+    fn every_file_has_its_end() {
+        assert_eq!(encode_all(&[]), [END]);
+        assert_eq!(decode_all(&[END]).unwrap(), []);
+        assert!(decode_all(&[]).is_err());
+        assert!(decode_all(&[END, END]).is_err());
     }
 
     #[test]

@@ -1,4 +1,4 @@
-// What the programs of stored cases share: bytes in, numbers and hashes out.
+// What the program of stored cases reads and prints with: bytes in, numbers and hashes out.
 ghost use Prim.Native.Nat.{_<_};
 use libc::STDIN_FILENO;
 use libc::STDOUT_FILENO;
@@ -17,18 +17,6 @@ pub fn wide(x: u8) -> u32
     ensures { λ r. ⌜ r < 256 ⌝ }
 {
     x as u32
-}
-
-// The 16-bit number of two bytes, lowest first.
-pub fn half(low: u8, high: u8) -> u32
-    ensures { λ r. ⌜ r < 65536 ⌝ }
-{
-    wide(low) + 256 * wide(high)
-}
-
-// The 32-bit number of four bytes, lowest first.
-pub fn word_of(a: u8, b: u8, c: u8, d: u8) -> u32 {
-    half(a, b) + 65536 * half(c, d)
 }
 
 // Fills the bytes from standard input; false where it ends before.
@@ -79,6 +67,10 @@ pub fn print_space() {
 
 pub fn end_line() {
     io::write_all(STDOUT_FILENO, b"\n");
+}
+
+pub fn print_text(text: &[u8]) {
+    io::write_all(STDOUT_FILENO, text);
 }
 
 pub fn print_hash(bytes: &[u8]) {

@@ -9,7 +9,19 @@ pub mod tree;
 
 use std::collections::HashSet;
 
+use crate::examples::Example;
 use crate::records::Case;
+
+/// Every layer's cases, one layer after the other.
+pub fn all(examples: &[Example]) -> Vec<Case> {
+    [
+        list::all(examples),
+        inherit::all(),
+        tree::all(),
+        script::all(),
+    ]
+    .concat()
+}
 
 /// The first cases as they are, then those of the others that are new.
 fn joined(first: Vec<Case>, others: Vec<Case>) -> Vec<Case> {

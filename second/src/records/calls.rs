@@ -7,7 +7,6 @@
 //!
 //! | byte | call      | numbers, and the 16 bytes of a GUID            | strings            |
 //! |------|-----------|------------------------------------------------|--------------------|
-//! | 0    | the end   |                                                |                    |
 //! | 4    | start     | room length, objects, steps, rule,             | default list       |
 //! |      |           | mapping (4 numbers), has default               |                    |
 //! | 5    | add       | parent, traits, GUID                           | owner, group, list |
@@ -34,12 +33,11 @@
 //! reads back, after another space, eight small hex digits: the FNV-1a hash of
 //! 32 bits over the whole of `out` afterwards (from 811C9DC5 on, for each byte
 //! exclusive or, then times 01000193, cut to 32 bits). For `room` it is the
-//! byte and the length. The end has no line.
+//! byte and the length.
 
 use super::{Case, spaced};
 use crate::tree::{Add, Call, Change, Outcome, Part, Start};
 
-pub const END: u8 = 0;
 const START: u8 = 4;
 const ADD: u8 = 5;
 const SET_LIST: u8 = 6;

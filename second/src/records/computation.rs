@@ -146,11 +146,12 @@ mod tests {
         let file = encode_all(&cases);
         let expected = "03 00 0000 01000000 03020000 04000000 05000000 06000000 07000000 \
             02000000 01000000 00000000 01000000 03000000 01000000 09000000 \
-            A0A1 B0 C0 D0D1D2 E0";
+            A0A1 B0 C0 D0D1D2 E0  00";
         assert_eq!(file, hex::decode(expected).unwrap());
         assert_eq!(decode_all(&file).unwrap(), cases);
-        assert!(decode_all(&file[..file.len() - 1]).is_err());
-        assert!(decode_all(&file[..40]).is_err());
+        for cut in 0..file.len() {
+            assert!(decode_all(&file[..cut]).is_err(), "cut at {cut}");
+        }
     }
 
     #[test]

@@ -1,6 +1,5 @@
 //! Records of whole scripts to be played: the byte 15, the script's length in
-//! 32 bits, the length of `out` in 16, both little-endian, then the script. As
-//! calls of a tree, they are closed by an end.
+//! 32 bits, the length of `out` in 16, both little-endian, then the script.
 //!
 //! A script has at most 140,000 bytes, `out` at most 1,100; every byte of it is
 //! AA before the call. The answer is a line as for calls that read back, with

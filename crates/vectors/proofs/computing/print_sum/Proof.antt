@@ -2,8 +2,8 @@
 use borrow.Author.Needs.{needs}
 use Prim.Native.Nat.{_≤_, _<_, _-_}
 use lib.ListN.{length}
-use Rattle.vectors_inherit.proofs.print_sum.Statement.{statement}
-use Rattle.vectors_inherit.proofs.print_sum.Tie as tie
+use Rattle.vectors.proofs.computing.print_sum.Statement.{statement}
+use Rattle.vectors.proofs.computing.print_sum.Tie as tie
 
 abbrev Inv-loop : tie.InvT-loop
 Inv-loop bytes a₀ b₀ i₀ a b i = (i ≤ length bytes) × (a < 65521) × (b < 65521)

@@ -1,17 +1,17 @@
--- The index stays within the row. Assumes nothing.
+-- The index stays within the buffer. Assumes nothing.
 use borrow.Author.Needs.{needs}
 use native.Mathlib.Omega.{arith}
 use mathlib.Core.Path.{_≡_}
 use Prim.Native.Nat.{_≤_, _-_}
 use lib.ListN.{length, length-set}
-use Rattle.vectors_list.proofs.prepare.Statement.{statement}
-use Rattle.vectors_list.proofs.prepare.Tie as tie
+use Rattle.vectors.proofs.computing.prepare.Statement.{statement}
+use Rattle.vectors.proofs.computing.prepare.Tie as tie
 
 abbrev Inv-loop : tie.InvT-loop
-Inv-loop row₀ i₀ row i = (i ≤ length row) × (length row ≡ length row₀)
+Inv-loop out₀ i₀ out i = (i ≤ length out) × (length out ≡ length out₀)
 
 abbrev μ-loop : tie.MeasureT-loop
-μ-loop row₀ i₀ row i = length row₀ - i
+μ-loop out₀ i₀ out i = length out₀ - i
 
 loop-holds : tie.Need-loop-holds Inv-loop μ-loop
 loop-holds c = search needs
@@ -19,11 +19,8 @@ loop-holds c = search needs
 before-requires : tie.Need-before-requires Inv-loop μ-loop
 before-requires c κs = search needs
 
-mul-row : tie.Need-mul-row Inv-loop μ-loop
-mul-row c = search needs
-
-slice-write-row : tie.Need-slice-write-row Inv-loop μ-loop
-slice-write-row c = search needs
+slice-write-out : tie.Need-slice-write-out Inv-loop μ-loop
+slice-write-out c = search needs
 
 add-i : tie.Need-add-i Inv-loop μ-loop
 add-i c = search needs
@@ -48,8 +45,7 @@ prepare-spec =
     μ-loop
     loop-holds
     before-requires
-    mul-row
-    slice-write-row
+    slice-write-out
     add-i
     loop-less
     loop-again

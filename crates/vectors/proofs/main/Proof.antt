@@ -1,27 +1,27 @@
 -- The buffers keep their lengths, and the turns run out. Assumes nothing.
 use borrow.Author.Needs.{needs}
-use mathlib.Core.Path.{_≡_}
+use mathlib.Core.Path.{_≡_, refl}
 use lib.ListN.{length}
-use Rattle.vectors_list.proofs.main.Statement.{statement}
-use Rattle.vectors_list.proofs.main.Tie as tie
+use Rattle.vectors.proofs.main.Statement.{statement}
+use Rattle.vectors.proofs.main.Tie as tie
 
 abbrev Inv-loop : tie.InvT-loop
-Inv-loop payload₀ row₀ turns₀ payload row turns = (length payload ≡ 66000) × (length row ≡ 4200)
+Inv-loop area₀ room₀ lent₀ turns₀ area room lent turns = (length area ≡ 198656) × (length room ≡ 220000)
 
 abbrev μ-loop : tie.MeasureT-loop
-μ-loop payload₀ row₀ turns₀ payload row turns = turns
+μ-loop area₀ room₀ lent₀ turns₀ area room lent turns = turns
 
 loop-holds : tie.Need-loop-holds Inv-loop μ-loop
-loop-holds c = search needs
+loop-holds c = (refl, refl)
 
-slice-aggregate-run-case : tie.Need-slice-aggregate-run-case Inv-loop μ-loop
-slice-aggregate-run-case c = search needs
+slice-aggregate-run-next : tie.Need-slice-aggregate-run-next Inv-loop μ-loop
+slice-aggregate-run-next c = search needs
 
-slice-aggregate-run-case-2 : tie.Need-slice-aggregate-run-case-2 Inv-loop μ-loop
-slice-aggregate-run-case-2 c = search needs
+slice-aggregate-run-next-2 : tie.Need-slice-aggregate-run-next-2 Inv-loop μ-loop
+slice-aggregate-run-next-2 c = search needs
 
-run-case-requires : tie.Need-run-case-requires Inv-loop μ-loop
-run-case-requires c κs = search needs
+run-next-requires : tie.Need-run-next-requires Inv-loop μ-loop
+run-next-requires c κs = search needs
 
 sub-turns : tie.Need-sub-turns Inv-loop μ-loop
 sub-turns c = search needs
@@ -45,9 +45,9 @@ main-spec =
     Inv-loop
     μ-loop
     loop-holds
-    slice-aggregate-run-case
-    slice-aggregate-run-case-2
-    run-case-requires
+    slice-aggregate-run-next
+    slice-aggregate-run-next-2
+    run-next-requires
     sub-turns
     loop-less
     loop-again

@@ -2,8 +2,8 @@
 use borrow.Author.Needs.{needs}
 use Prim.Native.Nat.{_≤_, _-_}
 use lib.ListN.{length}
-use Rattle.vectors_list.proofs.print_row.Statement.{statement}
-use Rattle.vectors_list.proofs.print_row.Tie as tie
+use Rattle.vectors.proofs.lists.print_row.Statement.{statement}
+use Rattle.vectors.proofs.lists.print_row.Tie as tie
 
 abbrev Inv-loop : tie.InvT-loop
 Inv-loop row i₀ i = i ≤ length row

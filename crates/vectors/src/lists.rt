@@ -1,16 +1,14 @@
-// Runs the stored cases of standard input and writes what each answers, a line for each.
-// A case: a kind byte (1 read a list, 2 identity), a zero byte, the row's length in 16 bits, the payload's length in 32, the payload.
-ghost use Prim.Native.Nat.{_≤_};
-ghost use lib.ListN.{length};
+// Reading. A case: its kind (1 read a list, 2 identity), a zero byte, the row's length in 16 bits, the payload's length in 32, the payload.
+use crate::area::read_to;
+use list::half_in;
+use list::part_of;
+use list::word_in;
 use stored::end_line;
-use stored::half;
 use stored::print_bytes;
 use stored::print_size;
 use stored::print_space;
 use stored::print_values;
 use stored::print_word;
-use stored::read;
-use stored::word_of;
 
 const MOST_PAYLOAD: usize = 66000;
 
@@ -54,7 +52,17 @@ fn run_read(list: &[u8], row: &mut [u16]) {
     end_line();
 }
 
-fn run_identity(bytes: &[u8]) {
+// False where the row is over its limit.
+fn run_list(list: &[u8], m: usize) -> bool {
+    if MOST_ROW < m {
+        return false;
+    }
+    let mut row = [0u16; MOST_ROW];
+    run_read(list, &mut row[0..m]);
+    true
+}
+
+fn run_identity(bytes: &[u8]) -> bool {
     let made = list::Sid::from_bytes(bytes);
     let sid = made.sid;
     let len = sid.len;
@@ -65,44 +73,28 @@ fn run_identity(bytes: &[u8]) {
     print_space();
     print_bytes(&buffer);
     end_line();
+    true
 }
 
-// The next case, or false where the input ends or holds no case.
-fn run_case(payload: &mut [u8], row: &mut [u16]) -> bool
-    requires { ⌜ (66000 ≤ length (now payload)) × (4200 ≤ length (now row)) ⌝ }
-{
-    let mut head = [0u8; 8];
-    if !read(&mut head) {
+fn run_payload(kind: u8, m: usize, payload: &[u8]) -> bool {
+    if kind == 2 {
+        return run_identity(payload);
+    }
+    run_list(payload, m)
+}
+
+// Reads the rest of a case and runs it; false where a length is over its limit or the input ends.
+pub(crate) fn run(kind: u8, area: &mut [u8]) -> bool {
+    if !read_to(area, 1, 7) {
         return false;
     }
-    let m = half(head[2], head[3]) as usize;
-    let n = word_of(head[4], head[5], head[6], head[7]) as usize;
-    if MOST_ROW < m {
-        return false;
-    }
+    let m = half_in(area, 2) as usize;
+    let n = word_in(area, 4) as usize;
     if MOST_PAYLOAD < n {
         return false;
     }
-    if !read(&mut payload[0..n]) {
+    if !read_to(area, 8, n) {
         return false;
     }
-    let kind = head[0];
-    if kind == 1 {
-        run_read(&payload[0..n], &mut row[0..m]);
-        return true;
-    }
-    if kind == 2 {
-        run_identity(&payload[0..n]);
-        return true;
-    }
-    false
-}
-
-fn main() {
-    let mut payload = [0u8; MOST_PAYLOAD];
-    let mut row = [0u16; MOST_ROW];
-    let mut turns = u32::MAX;
-    while 0 < turns && run_case(&mut payload, &mut row) {
-        turns -= 1;
-    }
+    run_payload(kind, m, part_of(area, 8, n))
 }
