@@ -1,11 +1,13 @@
 //! The calls of the C library, wrapped so that what is lent is watched.
 
+pub mod lending;
 pub mod script;
 pub mod tree;
 
 use std::ffi::c_uint;
 use std::ptr;
 
+use lending::Lending;
 use second::computing::Request;
 use second::random::Random;
 
@@ -91,28 +93,29 @@ pub fn read(list: &[u8], row: &mut [u16], answer: &mut [u32; 8], when_empty: Whe
 }
 
 /// As `read`; the result goes into the room.
-pub fn compute(request: &Request, room: &mut [u8], answer: &mut [u32; 8], when_empty: WhenEmpty) {
+pub fn compute(request: &Request, room: &mut [u8], answer: &mut [u32; 8], lending: &Lending) {
     let room_length = room.len();
     // SAFETY: the pointers cover their lengths, or are null where a length is
-    // 0; no two parts overlap, the mapping holds four numbers and the answer eight.
+    // 0; room and answer overlap nothing, what is only read may be one range.
+    // The mapping holds four numbers and the answer eight.
     unsafe {
         pt_compute(
             request.rule,
             request.settings,
-            request.mapping.as_ptr(),
-            when_empty.pointer(&request.parent),
+            lending.mapping(&request.mapping),
+            lending.pointer(&request.parent),
             request.parent.len(),
-            when_empty.pointer(&request.creator),
+            lending.pointer(&request.creator),
             request.creator.len(),
-            when_empty.pointer(&request.default_list),
+            lending.pointer(&request.default_list),
             request.default_list.len(),
-            when_empty.pointer(&request.types),
+            lending.pointer(&request.types),
             request.types.len(),
-            when_empty.pointer(&request.owner),
+            lending.pointer(&request.owner),
             request.owner.len(),
-            when_empty.pointer(&request.group),
+            lending.pointer(&request.group),
             request.group.len(),
-            when_empty.pointer_mut(room),
+            lending.when_empty.pointer_mut(room),
             room_length,
             answer.as_mut_ptr(),
         );

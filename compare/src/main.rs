@@ -2,6 +2,8 @@
 
 mod capi;
 mod compute;
+mod deep;
+mod floors;
 mod list;
 mod mutate;
 mod program;
@@ -14,7 +16,7 @@ use std::process::ExitCode;
 
 use report::Report;
 
-const USAGE: &str = "usage: compare list|compute|tree|script --cases N --seed S
+const USAGE: &str = "usage: compare list|compute|tree|deep|script --cases N --seed S
        compare program PATH --cases N --seed S
        compare repeat library|second WHAT TIMES     (bench/run names what)";
 
@@ -43,8 +45,13 @@ impl Run {
 fn main() -> ExitCode {
     let arguments: Vec<String> = std::env::args().skip(1).collect();
     let words: Vec<&str> = arguments.iter().map(String::as_str).collect();
-    if let ["repeat", who, what, times] = words[..] {
-        return repeated(who, what, times);
+    match words[..] {
+        ["repeat", who, what, times] => return repeated(who, what, times),
+        // `compare program` starts it by itself.
+        ["witness"] => {
+            return program::witness::run().map_or(ExitCode::FAILURE, |()| ExitCode::SUCCESS);
+        }
+        _ => {}
     }
     let Some(run) = parse(&words) else {
         eprintln!("{USAGE}");
@@ -52,7 +59,8 @@ fn main() -> ExitCode {
     };
     let report = run.report();
     print!("{}", report.text());
-    if report.differences() == 0 && report.cases() == run.cases {
+    let all_were_run = report.differences() == 0 && report.cases() == run.cases;
+    if all_were_run && report.shortfalls().is_empty() {
         ExitCode::SUCCESS
     } else {
         ExitCode::FAILURE
@@ -91,6 +99,7 @@ fn layer_by_name(name: &str) -> Option<fn(usize, u64) -> Report> {
         "list" => Some(list::compare),
         "compute" => Some(compute::compare),
         "tree" => Some(tree::compare),
+        "deep" => Some(deep::compare),
         "script" => Some(script::compare),
         _ => None,
     }

@@ -2,7 +2,7 @@
 
 use std::ffi::c_uint;
 
-use super::WhenEmpty;
+use super::lending::Lending;
 use second::tree::{Call, Change, Part, Start};
 
 unsafe extern "C" {
@@ -93,29 +93,30 @@ pub fn room(objects: u32, steps: u32) -> usize {
 }
 
 // In all that follows the pointers cover their lengths, or are null where a
-// length is 0; no two parts overlap, and the answer holds eight numbers.
+// length is 0; what a call may change overlaps nothing, what it only reads may
+// be one range; and the answer holds eight numbers.
 
-pub fn start(room: &mut [u8], start: &Start, answer: &mut [u32; 8], when_empty: WhenEmpty) {
+pub fn start(room: &mut [u8], start: &Start, answer: &mut [u32; 8], lending: &Lending) {
     // SAFETY: as above; the mapping holds four numbers.
     unsafe {
         pt_start(
-            when_empty.pointer_mut(room),
+            lending.when_empty.pointer_mut(room),
             room.len(),
             start.objects,
             start.steps,
             start.rule,
-            start.mapping.as_ptr(),
+            lending.mapping(&start.mapping),
             start.has_default,
-            when_empty.pointer(&start.default_list),
+            lending.pointer(&start.default_list),
             start.default_list.len(),
             answer.as_mut_ptr(),
         );
     }
 }
 
-pub fn change(room: &mut [u8], change: &Change, answer: &mut [u32; 8], when_empty: WhenEmpty) {
+pub fn change(room: &mut [u8], change: &Change, answer: &mut [u32; 8], lending: &Lending) {
     let room_length = room.len();
-    let room = when_empty.pointer_mut(room);
+    let room = lending.when_empty.pointer_mut(room);
     let answer = answer.as_mut_ptr();
     match change {
         // SAFETY: as above; the type has sixteen bytes.
@@ -125,12 +126,12 @@ pub fn change(room: &mut [u8], change: &Change, answer: &mut [u32; 8], when_empt
                 room_length,
                 add.parent,
                 add.traits,
-                add.object_type.as_ptr(),
-                when_empty.pointer(&add.owner),
+                lending.pointer(&add.object_type),
+                lending.pointer(&add.owner),
                 add.owner.len(),
-                when_empty.pointer(&add.group),
+                lending.pointer(&add.group),
                 add.group.len(),
-                when_empty.pointer(&add.list),
+                lending.pointer(&add.list),
                 add.list.len(),
                 answer,
             );
@@ -141,7 +142,7 @@ pub fn change(room: &mut [u8], change: &Change, answer: &mut [u32; 8], when_empt
             has_list,
             list,
         } => unsafe {
-            let pointer = when_empty.pointer(list);
+            let pointer = lending.pointer(list);
             pt_set_list(
                 room,
                 room_length,
@@ -166,9 +167,9 @@ pub fn change(room: &mut [u8], change: &Change, answer: &mut [u32; 8], when_empt
                 room,
                 room_length,
                 *object,
-                when_empty.pointer(owner),
+                lending.pointer(owner),
                 owner.len(),
-                when_empty.pointer(group),
+                lending.pointer(group),
                 group.len(),
                 answer,
             );
@@ -176,21 +177,27 @@ pub fn change(room: &mut [u8], change: &Change, answer: &mut [u32; 8], when_empt
     }
 }
 
-pub fn undo(room: &mut [u8], answer: &mut [u32; 8], when_empty: WhenEmpty) {
+pub fn undo(room: &mut [u8], answer: &mut [u32; 8], lending: &Lending) {
     let room_length = room.len();
     // SAFETY: as above.
     unsafe {
         pt_undo(
-            when_empty.pointer_mut(room),
+            lending.when_empty.pointer_mut(room),
             room_length,
             answer.as_mut_ptr(),
         );
     }
 }
 
-pub fn counts(room: &[u8], answer: &mut [u32; 8], when_empty: WhenEmpty) {
+pub fn counts(room: &[u8], answer: &mut [u32; 8], lending: &Lending) {
     // SAFETY: as above.
-    unsafe { pt_counts(when_empty.pointer(room), room.len(), answer.as_mut_ptr()) }
+    unsafe {
+        pt_counts(
+            lending.when_empty.pointer(room),
+            room.len(),
+            answer.as_mut_ptr(),
+        )
+    }
 }
 
 pub fn read_back(
@@ -199,7 +206,7 @@ pub fn read_back(
     object: u32,
     out: &mut [u8],
     answer: &mut [u32; 8],
-    when_empty: WhenEmpty,
+    lending: &Lending,
 ) {
     let call = match part {
         Part::List => pt_list,
@@ -210,10 +217,10 @@ pub fn read_back(
     // SAFETY: as above.
     unsafe {
         call(
-            when_empty.pointer(room),
+            lending.when_empty.pointer(room),
             room.len(),
             object,
-            when_empty.pointer_mut(out),
+            lending.when_empty.pointer_mut(out),
             out_length,
             answer.as_mut_ptr(),
         );
@@ -227,18 +234,18 @@ pub fn play(
     room: &mut [u8],
     out: &mut [u8],
     answer: &mut [u32; 8],
-    when_empty: WhenEmpty,
+    lending: &Lending,
 ) {
     match call {
         Call::Start { room_length, start } => {
             let lent = &mut room[..*room_length as usize];
-            self::start(lent, start, answer, when_empty);
+            self::start(lent, start, answer, lending);
         }
-        Call::Change(change) => self::change(room, change, answer, when_empty),
-        Call::Undo => undo(room, answer, when_empty),
-        Call::Counts => counts(room, answer, when_empty),
+        Call::Change(change) => self::change(room, change, answer, lending),
+        Call::Undo => undo(room, answer, lending),
+        Call::Counts => counts(room, answer, lending),
         Call::Read { part, object, .. } => {
-            read_back(room, *part, *object, out, answer, when_empty);
+            read_back(room, *part, *object, out, answer, lending);
         }
         Call::Room { .. } => unreachable!("it is asked without a room"),
     }

@@ -1,6 +1,7 @@
 //! Fresh random computations: most of them good, others spoilt in a part or
 //! in several.
 
+use super::share::share;
 use crate::mutate::{mutate_identity, mutate_list};
 use second::ace::LONGEST_LIST;
 use second::cases::build::{EntryPlan, creator_sid, good_list, list_of_plans, nt_sid, random_list};
@@ -13,7 +14,14 @@ use second::records::{LONGEST_OTHER, LONGEST_ROOM};
 const FEW_ENTRIES: usize = 6;
 const MANY_ENTRIES: usize = 40;
 
-pub fn request_and_room(random: &mut Random) -> (Request, usize) {
+pub struct Case {
+    pub request: Request,
+    pub room: usize,
+    /// Parts that are the same bytes are to be one range.
+    pub together: bool,
+}
+
+pub fn case(random: &mut Random) -> Case {
     let mut request = if random.chance(1, 1_000) {
         large(random)
     } else {
@@ -29,8 +37,16 @@ pub fn request_and_room(random: &mut Random) -> (Request, usize) {
             spoil(random, &mut request);
         }
     }
+    let together = random.chance(1, 8);
+    if together {
+        share(random, &mut request);
+    }
     let room = room(random, &request);
-    (request, room)
+    Case {
+        request,
+        room,
+        together,
+    }
 }
 
 fn spoil(random: &mut Random, request: &mut Request) {

@@ -1,9 +1,13 @@
 //! Computing a new object's list.
 
 mod generate;
+mod lent;
+mod share;
 
-use crate::capi::{self, WhenEmpty};
+use crate::capi;
+use crate::floors;
 use crate::report::Report;
+use generate::Case as Fresh;
 use second::computing::{self, Request};
 use second::hex;
 use second::random::Random;
@@ -16,15 +20,16 @@ const LONGEST_TOLD: usize = 4_000;
 
 pub fn compare(cases: usize, seed: u64) -> Report {
     let mut random = Random::new(seed);
-    let mut report = Report::new("compute");
+    let mut report = Report::new("compute", &floors::COMPUTE);
     for _ in 0..cases {
-        let (request, room) = generate::request_and_room(&mut random);
-        compare_one(&mut random, &mut report, &request, room);
+        let fresh = generate::case(&mut random);
+        compare_one(&mut random, &mut report, &fresh);
     }
     report
 }
 
-fn compare_one(random: &mut Random, report: &mut Report, request: &Request, room: usize) {
+fn compare_one(random: &mut Random, report: &mut Report, fresh: &Fresh) {
+    let (request, room) = (&fresh.request, fresh.room);
     let before = random.bytes(room + 2 * MARGIN);
     let inside = MARGIN..MARGIN + room;
 
@@ -41,19 +46,24 @@ fn compare_one(random: &mut Random, report: &mut Report, request: &Request, room
     let lent = request.clone();
     let mut their_room = before;
     let mut theirs = [0; 8].map(|_: u32| random.word());
-    let empty = WhenEmpty::draw(random);
-    capi::compute(&lent, &mut their_room[inside], &mut theirs, empty);
+    let lending = lent::lending(random, &lent, fresh.together);
+    lent::count_shared(report, &lending, &lent);
+    capi::compute(&lent, &mut their_room[inside], &mut theirs, &lending);
 
     let difference = if theirs != ours {
         Some(format!("{theirs:?}, second {ours:?}"))
     } else if their_room != our_room {
         Some(room_difference(&their_room, &our_room))
-    } else if lent != *request {
+    } else if lent != *request || !lending.is_unchanged() {
         Some("an input was changed".to_string())
     } else {
         None
     };
     let told = difference.map(|what| format!("compute {}: {what}", told(request, room)));
+    if (1..=3).contains(&ours[1]) {
+        let list = ["parent", "creator", "default"][ours[1] as usize - 1];
+        report.add_call(list, ours[0]);
+    }
     report.add("compute", ours[0], told);
 }
 

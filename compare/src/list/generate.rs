@@ -1,11 +1,19 @@
 //! Fresh random cases.
 
 use crate::mutate::{TELLING, mutate_identity, mutate_list};
+use second::ace::LONGEST_LIST;
 use second::cases::build::{
-    EntryPlan, MOST_NUMBERS, creator_sid, fix_size, list_of_plans, of_creator_authority,
+    EntryPlan, MOST_NUMBERS, creator_sid, fix_size, list_of, list_of_plans, of_creator_authority,
     random_list, random_sid, set_count,
 };
+use second::cases::spoil::{spoilt, thorough};
+use second::cases::tree::make::entries_of;
+use second::list::HEADER_LENGTH;
 use second::random::Random;
+
+/// Of entries.
+const SHORTEST: usize = 16;
+const LONGEST: usize = 112;
 
 pub enum Subject {
     List { list: Vec<u8>, row_length: usize },
@@ -25,6 +33,9 @@ pub fn subject(random: &mut Random) -> Subject {
 fn list(random: &mut Random) -> (Vec<u8>, usize) {
     if random.chance(1, 1_500) {
         return long_list(random);
+    }
+    if random.chance(1, 300) {
+        return long_and_mixed(random);
     }
     let count = entry_count(random);
     let revision = *random.pick(&[2, 4, 4]);
@@ -121,6 +132,40 @@ fn long_list(random: &mut Random) -> (Vec<u8>, usize) {
         mutate_list(random, &mut list);
     }
     (list, count)
+}
+
+/// Thousands of entries that differ in type, word and length, in up to 65,532
+/// bytes. In half of them a late one is spoilt.
+fn long_and_mixed(random: &mut Random) -> (Vec<u8>, usize) {
+    let length = match random.below(4) {
+        0 => LONGEST_LIST - 4 * random.below(8),
+        _ => 20_000 + 4 * random.below(11_383),
+    };
+    let plans = differing(random, length - HEADER_LENGTH);
+    let count = plans.len();
+    let mut entries: Vec<Vec<u8>> = plans.iter().map(EntryPlan::bytes).collect();
+    if random.chance(1, 2) {
+        let late = count - 1 - random.below(count / 4);
+        let spoil = *random.pick(&thorough(&plans[late]));
+        entries[late] = spoilt(&plans[late], &[spoil]);
+    }
+    (list_of(4, &entries), count)
+}
+
+/// Entries of this many bytes in all.
+fn differing(random: &mut Random, mut bytes: usize) -> Vec<EntryPlan> {
+    let mut plans = Vec::new();
+    while bytes >= LONGEST + SHORTEST {
+        let numbers = random.below(MOST_NUMBERS + 1);
+        let plan = EntryPlan {
+            sid: random_sid(random, numbers),
+            ..EntryPlan::random(random, true)
+        };
+        bytes -= plan.size();
+        plans.push(plan);
+    }
+    plans.extend(entries_of(0x03, bytes));
+    plans
 }
 
 fn row_length(random: &mut Random, count: usize) -> usize {

@@ -3,6 +3,7 @@
 mod generate;
 
 use crate::capi::{self, WhenEmpty};
+use crate::floors;
 use crate::report::Report;
 use generate::Subject;
 use second::random::Random;
@@ -10,10 +11,12 @@ use second::{hex, identity, reading};
 
 /// Elements before and after the row that nobody may touch.
 const MARGIN: usize = 4;
+/// Longer lists are counted by themselves, and told by their length.
+const LONG: usize = 16_384;
 
 pub fn compare(cases: usize, seed: u64) -> Report {
     let mut random = Random::new(seed);
-    let mut report = Report::new("list");
+    let mut report = Report::new("list", &floors::LIST);
     for _ in 0..cases {
         match generate::subject(&mut random) {
             Subject::List { list, row_length } => {
@@ -63,10 +66,23 @@ fn compare_read(random: &mut Random, report: &mut Report, list: &[u8], row_lengt
         None
     };
     let told = difference.map(|what| {
-        let text = hex::encode(list);
-        format!("read row {row_length} list {text}: {what}")
+        let list = told(list);
+        format!("read row {row_length} list {list}: {what}")
     });
+    if list.len() > LONG {
+        report.add_call("read of a long list", ours[0]);
+        report.reach("longest list that was read", ours[3] as usize);
+        report.reach("most entries of a list", ours[5] as usize);
+        report.reach("latest offset of a refusal", ours[2] as usize);
+    }
     report.add("read", ours[0], told);
+}
+
+fn told(list: &[u8]) -> String {
+    if list.len() > LONG {
+        return format!("of {} bytes", list.len());
+    }
+    hex::encode(list)
 }
 
 fn random_numbers(random: &mut Random, length: usize) -> Vec<u16> {

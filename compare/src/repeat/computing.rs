@@ -3,6 +3,7 @@
 use std::hint::black_box;
 
 use super::{Repeated, Side, lists};
+use crate::capi::lending::Lending;
 use crate::capi::{self, WhenEmpty};
 use second::cases::tree::make::system;
 use second::computing::{self, Request, setting};
@@ -43,7 +44,8 @@ impl Repeated for Computing {
         let request = black_box(&self.request);
         match self.side {
             Side::Library => {
-                capi::compute(request, &mut self.out, &mut self.answer, WhenEmpty::Null);
+                let lending = Lending::apart(WhenEmpty::Null);
+                capi::compute(request, &mut self.out, &mut self.answer, &lending);
             }
             Side::Second => self.answer = computing::compute(request, &mut self.out).eight(),
         }

@@ -4,6 +4,7 @@
 use std::hint::black_box;
 
 use super::{Repeated, Side, lists};
+use crate::capi::lending::Lending;
 use crate::capi::{self, WhenEmpty};
 use second::cases::tree::make::{CONTAINER, below, root, set_list as list_set, set_mark};
 use second::room::{Found, lay_out, read};
@@ -54,7 +55,8 @@ impl Changing {
         let answer = &mut self.answer;
         match self.side {
             Side::Library => {
-                capi::tree::play(call, &mut self.room, &mut [], answer, WhenEmpty::Null);
+                let lending = Lending::apart(WhenEmpty::Null);
+                capi::tree::play(call, &mut self.room, &mut [], answer, &lending);
             }
             Side::Second => {
                 let played = play_on(Some(&mut self.found), call);

@@ -3,6 +3,7 @@
 pub mod generate;
 
 use crate::capi::{self, WhenEmpty};
+use crate::floors;
 use crate::report::Report;
 use second::hex;
 use second::random::Random;
@@ -17,7 +18,7 @@ const LONGEST_TOLD: usize = 4_000;
 /// whatever the others find.
 pub fn compare(cases: usize, seed: u64) -> Report {
     let mut seeds = Random::new(seed);
-    let mut report = Report::new("script");
+    let mut report = Report::new("script", &floors::SCRIPT);
     for number in 1..=cases {
         let mut random = Random::new(seeds.draw());
         let script = generate::script(&mut random);

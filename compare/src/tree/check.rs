@@ -1,6 +1,8 @@
 //! One call on both sides, and what it does to the room.
 
-use crate::capi::{self, WhenEmpty};
+use super::lent;
+use crate::capi;
+use crate::deep::Large;
 use crate::report::Report;
 use second::random::Random;
 use second::room::{self, Found, length};
@@ -18,6 +20,8 @@ pub enum Ours {
     Played(Player),
     /// Found in a room, whatever made it.
     Found(Found),
+    /// With each list worked out once.
+    Large(Large),
 }
 
 impl Ours {
@@ -42,6 +46,7 @@ impl Ours {
             Ours::NoTree => None,
             Ours::Played(player) => player.tree().map(Found::from),
             Ours::Found(found) => Some(found.clone()),
+            Ours::Large(large) => large.found().cloned(),
         }
     }
 
@@ -50,6 +55,7 @@ impl Ours {
             Ours::Played(player) => player.play(call),
             Ours::NoTree => tree::play_on(None::<&mut Found>, call),
             Ours::Found(found) => tree::play_on(Some(found), call),
+            Ours::Large(large) => large.play(call),
         }
     }
 }
@@ -63,8 +69,17 @@ pub struct Both {
 impl Both {
     /// Before a start, in a room of noise.
     pub fn before_start(random: &mut Random, room_length: usize) -> Both {
+        Both::before(random, room_length, Ours::Played(Player::default()))
+    }
+
+    /// The same, for a tree that is to be large.
+    pub fn before_large_start(random: &mut Random, room_length: usize) -> Both {
+        Both::before(random, room_length, Ours::Large(Large::default()))
+    }
+
+    fn before(random: &mut Random, room_length: usize, ours: Ours) -> Both {
         Both {
-            ours: Ours::Played(Player::default()),
+            ours,
             lent: random.bytes(room_length + 2 * MARGIN),
         }
     }
@@ -104,17 +119,19 @@ impl Both {
         let mut theirs = [0; 8].map(|_: u32| random.word());
         let given = call.clone();
         let before = self.lent.clone();
+        let lending = lent::lending(random, &given);
+        lent::count_shared(report, &lending, &given);
         capi::tree::play(
             &given,
             inside_mut(&mut self.lent),
             inside_mut(&mut out),
             &mut theirs,
-            WhenEmpty::draw(random),
+            &lending,
         );
         if theirs != our_answer {
             return Err(format!("{theirs:?}, second {our_answer:?}"));
         }
-        if given != *call {
+        if given != *call || !lending.is_unchanged() {
             return Err("an input was changed".to_string());
         }
         self.check_out(&ours, &out)?;
@@ -152,7 +169,7 @@ impl Both {
             (Call::Start { .. }, _) => {
                 same(&room[..needed], &room::lay_out(&expected), "started room")
             }
-            (_, Ours::Played(_)) => own_data_is_written_whole(room, &expected),
+            (_, Ours::Played(_) | Ours::Large(_)) => own_data_is_written_whole(room, &expected),
             _ => Ok(()),
         }
     }

@@ -23,7 +23,19 @@ pub fn start(random: &mut Random, palette: &Palette) -> Start {
     if start.default_list.len() > LONGEST_LIST {
         start.has_default = 0;
     }
+    if random.chance(1, 4) {
+        take_a_mapping(random, &mut start);
+    }
     start
+}
+
+/// Four numbers in a row of the default list, so that one range can be lent.
+fn take_a_mapping(random: &mut Random, start: &mut Start) {
+    let (words, _) = start.default_list.as_chunks();
+    if words.len() > 4 {
+        let at = random.below(words.len() - 4);
+        start.mapping = std::array::from_fn(|place| u32::from_ne_bytes(words[at + place]));
+    }
 }
 
 /// How many calls follow a start; now and then enough to pass the greatest

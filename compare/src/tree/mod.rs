@@ -1,12 +1,14 @@
 //! Sequences of calls on a tree, and rooms that no calls reach.
 
-mod check;
+pub mod check;
 mod damage;
-mod generate;
+pub mod generate;
+mod lent;
 mod made;
 mod places;
-mod told;
+pub mod told;
 
+use crate::floors;
 use crate::report::Report;
 use check::{Both, Ours};
 pub use generate::spoil;
@@ -19,7 +21,7 @@ use told::Told;
 /// whatever the others find.
 pub fn compare(cases: usize, seed: u64) -> Report {
     let mut seeds = Random::new(seed);
-    let mut report = Report::new("tree");
+    let mut report = Report::new("tree", &floors::TREE);
     for number in 1..=cases {
         let mut random = Random::new(seeds.draw());
         let difference = one(&mut random, &mut report).err();

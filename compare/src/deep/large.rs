@@ -1,0 +1,235 @@
+//! A tree whose lists are worked out once at each change, parents first. The
+//! second program's own trees follow the parents of every object up to the root
+//! anew, which takes too long where they are deep; `check_afresh` holds this one
+//! against them.
+
+use second::answer::Answer;
+use second::computing::{self, Request, setting};
+use second::room::{Found, Step};
+use second::tree::{
+    Call, Calls, Change, LONGEST_LIST, Object, Outcome, Refused, Settings, Tree, all_lists, apply,
+    list_answer, play_on,
+};
+
+type Lists = Vec<Option<Vec<u8>>>;
+
+/// The number of an object whose list would be too long.
+type TooLongAt = usize;
+
+#[derive(Clone, Default)]
+pub struct Large {
+    tree: Option<Standing>,
+}
+
+#[derive(Clone)]
+struct Standing {
+    found: Found,
+    /// Accepted and not undone since.
+    log: Vec<Change>,
+    accepted: usize,
+    forgotten: usize,
+    too_long: Option<TooLong>,
+}
+
+/// A change that was refused since a list would be too long.
+#[derive(Clone, Copy)]
+pub struct TooLong {
+    pub changed: usize,
+    /// The first whose list is too long, with the objects from the root to it.
+    pub object: usize,
+    pub depth: usize,
+    pub objects: usize,
+}
+
+impl Large {
+    pub fn found(&self) -> Option<&Found> {
+        self.tree.as_ref().map(|tree| &tree.found)
+    }
+
+    /// How many changes were accepted, undone or not.
+    pub fn accepted(&self) -> usize {
+        self.tree.as_ref().map_or(0, |tree| tree.accepted)
+    }
+
+    /// How many kept steps were pushed out by later ones.
+    pub fn forgotten(&self) -> usize {
+        self.tree.as_ref().map_or(0, |tree| tree.forgotten)
+    }
+
+    /// Of the last call.
+    pub fn too_long(&self) -> Option<TooLong> {
+        self.tree.as_ref().and_then(|tree| tree.too_long)
+    }
+
+    pub fn play(&mut self, call: &Call) -> Outcome {
+        if let Some(tree) = &mut self.tree {
+            tree.too_long = None;
+        }
+        match call {
+            Call::Start { room_length, start } => {
+                let started = Tree::start(*room_length as usize, start);
+                Outcome::Answer(started.map(|tree| {
+                    self.tree = Some(Standing::begun(&tree));
+                    Answer::default()
+                }))
+            }
+            _ => play_on(self.tree.as_mut(), call),
+        }
+    }
+
+    /// The log played again, every list by the second program's own way, and
+    /// the steps that undo would take.
+    pub fn check_afresh(&self) -> Result<(), String> {
+        let tree = self.tree.as_ref().expect("a start was done");
+        let found = &tree.found;
+        let mut objects = Vec::new();
+        let mut steps = Vec::new();
+        for change in &tree.log {
+            steps.insert(0, step(change, &objects));
+            apply(&mut objects, change);
+        }
+        steps.truncate(found.steps.len());
+        let lists = all_lists(&found.settings, &objects);
+        let parts = [
+            ("own data", objects == found.objects),
+            ("lists", lists.as_ref() == Ok(&found.lists)),
+            ("steps", steps == found.steps),
+        ];
+        match parts.iter().find(|(_, same)| !same) {
+            None => Ok(()),
+            Some((what, _)) => Err(format!("played again, the second program has other {what}")),
+        }
+    }
+}
+
+impl Standing {
+    fn begun(tree: &Tree) -> Standing {
+        Standing {
+            found: tree.into(),
+            log: Vec::new(),
+            accepted: 0,
+            forgotten: 0,
+            too_long: None,
+        }
+    }
+}
+
+impl Calls for Standing {
+    fn objects(&self) -> Vec<Object> {
+        self.found.objects()
+    }
+
+    fn list(&self, number: usize) -> Option<Vec<u8>> {
+        self.found.list(number)
+    }
+
+    fn kept_steps(&self) -> usize {
+        self.found.kept_steps()
+    }
+
+    fn change(&mut self, change: &Change) -> Result<Answer, Refused> {
+        let found = &mut self.found;
+        change.check(&found.objects, found.limits.objects)?;
+        let changed = change.object(found.objects.len());
+        let mut objects = found.objects.clone();
+        apply(&mut objects, change);
+        let lists = lists_in_turn(&found.settings, &objects).map_err(|object| {
+            self.too_long = Some(TooLong {
+                changed,
+                object,
+                depth: depths(&objects)[object],
+                objects: objects.len(),
+            });
+            Refused::ComputedTooLong
+        })?;
+        found.steps.insert(0, step(change, &found.objects));
+        self.forgotten += usize::from(found.steps.len() > found.limits.steps);
+        found.steps.truncate(found.limits.steps);
+        found.objects = objects;
+        found.lists = lists;
+        self.accepted += 1;
+        self.log.push(change.clone());
+        Ok(list_answer(self.found.lists[changed].as_deref()))
+    }
+
+    fn undo(&mut self) -> Result<Answer, Refused> {
+        let found = &mut self.found;
+        if found.steps.is_empty() {
+            return Err(Refused::NothingKept);
+        }
+        match found.steps.remove(0) {
+            Step::Add => {
+                found.objects.pop();
+            }
+            Step::Other { object, before } => found.objects[object] = before,
+        }
+        found.lists = lists_in_turn(&found.settings, &found.objects)
+            .expect("these lists stood before the change");
+        self.log.pop();
+        Ok(Answer::default())
+    }
+}
+
+fn step(change: &Change, before: &[Object]) -> Step {
+    let object = change.object(before.len());
+    match before.get(object) {
+        None => Step::Add,
+        Some(own_data) => Step::Other {
+            object,
+            before: own_data.clone(),
+        },
+    }
+}
+
+/// A parent's number is smaller than its children's, so its list is there.
+fn lists_in_turn(settings: &Settings, objects: &[Object]) -> Result<Lists, TooLongAt> {
+    let mut lists = Lists::new();
+    for (number, object) in objects.iter().enumerate() {
+        let parents = object.parent.and_then(|parent| lists[parent].clone());
+        lists.push(list(settings, object, parents).ok_or(number)?);
+    }
+    Ok(lists)
+}
+
+/// Document 01: with the parent's computed list, auto inherit yes and default
+/// descriptor no. `None` where it is too long.
+fn list(settings: &Settings, object: &Object, parents: Option<Vec<u8>>) -> Option<Option<Vec<u8>>> {
+    let yes_or_no = [
+        (setting::PARENT, parents.is_some()),
+        (setting::CREATOR, object.own_list.is_some()),
+        (setting::DEFAULT_LIST, settings.default_list.is_some()),
+        (setting::CONTAINER, object.is_container),
+        (setting::AUTO_INHERIT, true),
+        (setting::PROTECTED, object.is_protected),
+    ];
+    let chosen = yes_or_no.into_iter().filter(|&(_, yes)| yes);
+    let request = Request {
+        rule: settings.rule,
+        settings: chosen.map(|(bit, _)| bit).sum(),
+        mapping: settings.mapping,
+        parent: parents.unwrap_or_default(),
+        creator: object.own_list.clone().unwrap_or_default(),
+        default_list: settings.default_list.clone().unwrap_or_default(),
+        types: object.object_type.to_vec(),
+        owner: object.owner.clone(),
+        group: object.group.clone(),
+    };
+    let mut out = vec![0; LONGEST_LIST];
+    let answer = computing::compute(&request, &mut out);
+    match answer.number {
+        0 => {}
+        8 => return None,
+        number => panic!("good parts of an object are refused by {number}"),
+    }
+    out.truncate(answer.length as usize);
+    Some((answer.present == 1).then_some(out))
+}
+
+/// How many objects stand from the root to each, both counted.
+pub fn depths(objects: &[Object]) -> Vec<usize> {
+    let mut depths: Vec<usize> = Vec::new();
+    for object in objects {
+        depths.push(1 + object.parent.map_or(0, |parent| depths[parent]));
+    }
+    depths
+}
