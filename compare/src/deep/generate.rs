@@ -1,6 +1,9 @@
 //! Calls that fill a tree to its limits and go on with it there.
 
-use second::cases::build::{EntryPlan, MOST_NUMBERS, creator_sid, good_list, nt_sid, random_sid};
+use second::cases::build::{
+    EntryPlan, MOST_NUMBERS, creator_sid, good_list, list_of, nt_sid, random_sid,
+};
+use second::cases::spoil::{one_of_each, spoilt};
 use second::cases::tree::make::{entries_of, one_entry, remove_list, set_list, set_owner};
 use second::cases::tree::palette::{Palette, object};
 use second::random::Random;
@@ -11,13 +14,16 @@ use second::tree::{
 use crate::tree::spoil;
 
 /// Of entries.
-const SHORTEST: usize = 16;
+pub const SHORTEST: usize = 16;
 const LONGEST: usize = 112;
 /// Flags of entries that come down, and of such as stop one level below.
-const COMING_DOWN: [u8; 6] = [0x02, 0x03, 0x03, 0x0A, 0x0B, 0x01];
+pub const COMING_DOWN: [u8; 6] = [0x02, 0x03, 0x03, 0x0A, 0x0B, 0x01];
 const STOPPING: [u8; 4] = [0x04, 0x06, 0x07, 0x0E];
 /// Flags of entries that are for the object alone.
 const STAYING: [u8; 2] = [0x00, 0x00];
+
+/// An object that keeps out what comes down, in every tree.
+const MARKED: usize = 9;
 
 /// The shape of a tree.
 #[derive(Clone, Copy, PartialEq, Eq)]
@@ -27,10 +33,6 @@ pub enum Profile {
     /// Most below the root.
     Wide,
     Mixed,
-}
-
-impl Profile {
-    pub const ALL: [Profile; 3] = [Profile::Chain, Profile::Wide, Profile::Mixed];
 }
 
 pub struct Maker {
@@ -60,6 +62,8 @@ impl Maker {
         };
         let (list, protected) = if is_root {
             (Some(self.coming_down(random)), false)
+        } else if standing.len() == MARKED {
+            (Some(self.coming_down(random)), true)
         } else {
             self.own_list(random, standing.len())
         };
@@ -204,7 +208,36 @@ impl Maker {
         } else {
             self.palette.change(random, standing, MOST_OBJECTS as usize)
         };
-        spoil(random, &mut change);
+        let unknown = (random.word() >> random.below(28)).max(standing.len() as u32);
+        match &mut change {
+            Change::SetList { object, .. } | Change::SetOwner { object, .. }
+                if random.chance(1, 6) =>
+            {
+                *object = unknown;
+            }
+            Change::Add(add) if random.chance(1, 2) => {
+                add.traits |= traits::OWN_LIST;
+                add.list = self.bad_list(random);
+            }
+            Change::SetList { has_list, list, .. } if random.chance(1, 2) => {
+                *has_list = 1;
+                *list = self.bad_list(random);
+            }
+            _ => spoil(random, &mut change),
+        }
         change
+    }
+
+    /// By its header, or by one of the tests of an entry.
+    fn bad_list(&self, random: &mut Random) -> Vec<u8> {
+        let plans: Vec<EntryPlan> = (0..1 + random.below(4))
+            .map(|_| self.plan(random, &COMING_DOWN))
+            .collect();
+        let mut entries: Vec<Vec<u8>> = plans.iter().map(EntryPlan::bytes).collect();
+        let bad = random.below(plans.len());
+        let spoil = *random.pick(&one_of_each(&plans[bad]));
+        entries[bad] = spoilt(&plans[bad], &[spoil]);
+        let revision = *random.pick(&[4, 4, 4, 4, 4, 3]);
+        list_of(revision, &entries)
     }
 }

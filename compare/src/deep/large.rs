@@ -181,6 +181,16 @@ fn step(change: &Change, before: &[Object]) -> Step {
     }
 }
 
+/// Whether all lists would be short enough after these changes, which are good
+/// in themselves.
+pub fn fits(found: &Found, changes: &[Change]) -> bool {
+    let mut objects = found.objects.clone();
+    for change in changes {
+        apply(&mut objects, change);
+    }
+    lists_in_turn(&found.settings, &objects).is_ok()
+}
+
 /// A parent's number is smaller than its children's, so its list is there.
 fn lists_in_turn(settings: &Settings, objects: &[Object]) -> Result<Lists, TooLongAt> {
     let mut lists = Lists::new();

@@ -3,6 +3,7 @@
 
 mod generate;
 mod large;
+mod press;
 
 use crate::floors;
 use crate::report::Report;
@@ -17,10 +18,24 @@ use second::random::Random;
 use second::room::Found;
 use second::tree::{Call, Change, MOST_OBJECTS, Part};
 
+/// Shapes, in turn.
+const PROFILES: [Profile; 4] = [
+    Profile::Chain,
+    Profile::Wide,
+    Profile::Chain,
+    Profile::Mixed,
+];
+/// From which object on lists are long: in turn, two cases each.
+const LOADED_FROM: [usize; 4] = [1, 34, 40, 46];
 /// How often rule 1 comes.
-const ONE_IN: usize = 4;
-/// From which object on lists are long, in turn.
-const LOADED_FROM: [usize; 3] = [1, 34, 44];
+const ONE_IN: usize = 5;
+/// Accepted ones, with others between them. Of as many steps as are kept some
+/// are still adds, so that undo takes objects too.
+const MORE_CHANGES: usize = 40;
+const FEWER_CHANGES: usize = 12;
+/// How often changes of each kind are made at the limit of lists, at three
+/// times in each case.
+const PRESSED: usize = 3;
 
 /// Each case draws from a generator of its own. Profiles and rules come in
 /// turn, whatever is drawn.
@@ -29,12 +44,10 @@ pub fn compare(cases: usize, seed: u64) -> Report {
     let mut report = Report::new("deep", &floors::DEEP);
     for number in 1..=cases {
         let mut random = Random::new(seeds.draw());
-        let profile = Profile::ALL[number % Profile::ALL.len()];
-        let round = number / Profile::ALL.len();
         let maker = Maker {
-            profile,
+            profile: PROFILES[number % PROFILES.len()],
             palette: Palette::of_weight(&mut random, true),
-            loaded_from: LOADED_FROM[round % LOADED_FROM.len()],
+            loaded_from: LOADED_FROM[number / 2 % LOADED_FROM.len()],
         };
         let rule = if number.is_multiple_of(ONE_IN) { 1 } else { 2 };
         let difference = one(random, &mut report, maker, rule).err();
@@ -58,13 +71,18 @@ fn one(mut random: Random, report: &mut Report, maker: Maker, rule: u32) -> Resu
         room_length: room_length as u32,
         start,
     })?;
-    // More changes than steps are kept; then all that are kept are undone.
-    for more in [24 + case.random.below(60), 12] {
-        case.fill()?;
-        case.read_lists()?;
-        case.change(more)?;
-        case.undo_all()?;
-    }
+    case.fill()?;
+    case.press()?;
+    case.read_lists()?;
+    case.change(MORE_CHANGES)?;
+    case.press()?;
+    case.fill_steps()?;
+    case.undo_all()?;
+    // Once more, with what is left.
+    case.fill()?;
+    case.press()?;
+    case.change(FEWER_CHANGES)?;
+    case.undo_all()?;
     case.fill()?;
     case.read_everything()
 }
@@ -157,6 +175,29 @@ impl Case<'_> {
                     self.play(Call::Undo)?;
                 }
             }
+        }
+        Ok(())
+    }
+
+    /// Changes at the limit of lists, which are undone again.
+    fn press(&mut self) -> Result<(), String> {
+        for turn in 0..PRESSED * press::KINDS {
+            let found = self.found().clone();
+            let accepted = self.large().accepted();
+            for change in press::at_the_limit(&mut self.random, &found, turn) {
+                self.play(Call::Change(change))?;
+            }
+            for _ in 0..self.large().accepted() - accepted {
+                self.play(Call::Undo)?;
+            }
+        }
+        Ok(())
+    }
+
+    /// Until so many steps are kept as can be.
+    fn fill_steps(&mut self) -> Result<(), String> {
+        while self.found().steps.len() < self.found().limits.steps {
+            self.change(1)?;
         }
         Ok(())
     }

@@ -32,7 +32,7 @@ fn is_in_state(process: u32, states: &[&str]) -> bool {
 }
 
 pub fn is_stopped(process: u32) -> bool {
-    is_in_state(process, &["T"])
+    is_in_state(process, &["T", "t"])
 }
 
 /// It has ended, and nobody has asked for its status yet.
