@@ -5,8 +5,8 @@
 # make quick    for work between commits, and no verdict: what changed is proved, stored cases, 5,000 comparisons a layer, no edits
 # make edits    every edit, of crates/*/must-fail and of docs/edits: refused by the prover, and seen to change an answer
 # make lib      libpipeteasel.a, for C and whatever calls C (include/pipeteasel.h)
-# make compare  the C library and axs against the independent second program: CASES fresh cases, TREES sequences, SCRIPTS scripts
-#               and PIPED scripts handed to axs in pieces, all from SEED
+# make compare  the C library and axs against the independent second program: CASES fresh cases, TREES sequences, DEEP of them on trees
+#               at their limits, SCRIPTS scripts and PIPED scripts handed to axs in pieces, all from SEED
 # make hostile  CALLS calls of the C library with hostile bytes between guard pages, and some under valgrind
 # make cases    the stored cases and their answers anew, both by the second program
 # make bench    the table of docs/BENCH.md: instructions and times, library and second program (not a test)
@@ -15,6 +15,7 @@
 SCRIPT ?= examples/document.axs
 CASES ?= 100000
 TREES ?= 10000
+DEEP ?= 100
 SCRIPTS ?= 20000
 PIPED ?= 1000
 SEED ?= 1
@@ -65,7 +66,7 @@ test:
 quick:
 	tools/claims
 	rt check
-	$(MAKE) --no-print-directory compare CASES=5000 TREES=5000 SCRIPTS=5000 PIPED=100
+	$(MAKE) --no-print-directory compare CASES=5000 TREES=5000 DEEP=2 SCRIPTS=5000 PIPED=100
 	@echo "quick: all held; no edit was tried, and the gate asks for more: no verdict"
 
 edits: second
@@ -97,6 +98,7 @@ compare: lib axs $(STAND_IN)
 	target/cargo/release/compare list --cases $(CASES) --seed $(SEED)
 	target/cargo/release/compare compute --cases $(CASES) --seed $(SEED)
 	target/cargo/release/compare tree --cases $(TREES) --seed $(SEED)
+	target/cargo/release/compare deep --cases $(DEEP) --seed $(SEED)
 	target/cargo/release/compare script --cases $(SCRIPTS) --seed $(SEED)
 	target/cargo/release/compare program $(AXS) --cases $(PIPED) --seed $(SEED)
 
