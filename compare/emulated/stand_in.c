@@ -8,6 +8,7 @@
 #include <stdlib.h>
 #include <string.h>
 #include <sys/mman.h>
+#include <sys/wait.h>
 #include <unistd.h>
 
 #include "pipeteasel.h"
@@ -32,6 +33,7 @@ static pthread_mutex_t one_at_a_time = PTHREAD_MUTEX_INITIALIZER;
 static uint8_t *memory;
 static Head *head;
 static int to_driver, from_driver;
+static pid_t driver;
 
 static void fail(const char *what)
 {
@@ -49,27 +51,34 @@ static void become_driver(int file, int asks, int answers)
     _exit(127);
 }
 
+/* At the caller's end: the driver sees that it is asked no more. */
+static void end_driver(void)
+{
+    close(to_driver);
+    waitpid(driver, NULL, 0);
+}
+
 /* No other program that the caller starts holds the pipes or the memory open. */
 static void start_driver(void)
 {
     int asks[2], answers[2], file = memfd_create("pipeteasel", MFD_CLOEXEC);
-    pid_t child;
 
     if (file < 0 || ftruncate(file, (off_t)SHARED_BYTES) || pipe2(asks, O_CLOEXEC) || pipe2(answers, O_CLOEXEC))
         fail("no memory or no pipes to share with the driver");
     memory = mmap(NULL, SHARED_BYTES, PROT_READ | PROT_WRITE, MAP_SHARED, file, 0);
     if (memory == MAP_FAILED)
         fail("no memory to share with the driver");
-    child = fork();
-    if (child < 0)
+    driver = fork();
+    if (driver < 0)
         fail("the driver can't be started");
-    if (child == 0)
+    if (driver == 0)
         become_driver(file, asks[0], answers[1]);
     close(asks[0]);
     close(answers[1]);
     close(file);
     to_driver = asks[1];
     from_driver = answers[0];
+    atexit(end_driver);
     head = (Head *)(void *)memory;
 }
 
