@@ -1,6 +1,7 @@
 //! Changes to good bytes, mostly where a test looks.
 
-use second::cases::build::fix_size;
+use second::cases::build::{EntryPlan, fix_size, list_of};
+use second::cases::spoil::{one_of_each, spoilt};
 use second::random::Random;
 
 pub const TELLING: [u8; 19] = [
@@ -109,6 +110,20 @@ fn entry_starts(list: &[u8]) -> Vec<usize> {
         at += usize::from(u16::from_le_bytes([low, high])).max(4);
     }
     starts
+}
+
+/// Bad by its revision, or by one of the tests of an entry: so every number
+/// comes about as often.
+pub fn bad_list(random: &mut Random) -> Vec<u8> {
+    let plans: Vec<EntryPlan> = (0..1 + random.below(4))
+        .map(|_| EntryPlan::random(random, true))
+        .collect();
+    let mut entries: Vec<Vec<u8>> = plans.iter().map(EntryPlan::bytes).collect();
+    let bad = random.below(plans.len());
+    let way = *random.pick(&one_of_each(&plans[bad]));
+    entries[bad] = spoilt(&plans[bad], &[way]);
+    let revision = *random.pick(&[4, 4, 4, 4, 4, 3]);
+    list_of(revision, &entries)
 }
 
 pub fn mutate_identity(random: &mut Random, mut bytes: Vec<u8>) -> Vec<u8> {

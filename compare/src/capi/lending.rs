@@ -175,7 +175,7 @@ fn begin_a_word(bytes: &mut Vec<u8>) {
 mod tests {
     use super::*;
 
-    fn lent<'a>(parts: &[&'a [u8]], mapping: [u32; 4]) -> Lending {
+    fn lent(parts: &[&[u8]], mapping: [u32; 4]) -> Lending {
         Lending::together(WhenEmpty::Null, parts, Some(mapping))
     }
 
@@ -205,12 +205,11 @@ mod tests {
             let long = [&vec![0xAA; before][..], &words].concat();
             let lending = lent(&[&long], mapping);
             assert!(lending.mapping(&mapping).is_aligned());
-            let expected = if before % 4 == 0 {
-                Shared::Part
-            } else {
-                Shared::Nothing
+            let expected = match before {
+                0 => Shared::Whole,
+                4 => Shared::Part,
+                _ => Shared::Nothing,
             };
-            let expected = if before == 0 { Shared::Whole } else { expected };
             assert_eq!(lending.shared_with_mapping(&long, mapping), expected);
         }
     }

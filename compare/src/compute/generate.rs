@@ -22,7 +22,7 @@ pub struct Case {
 }
 
 pub fn case(random: &mut Random) -> Case {
-    let mut request = if random.chance(1, 1_000) {
+    let mut request = if random.chance(1, 400) {
         large(random)
     } else {
         let most = if random.chance(1, 30) {
@@ -116,7 +116,10 @@ fn room(random: &mut Random, request: &Request) -> usize {
 fn large(random: &mut Random) -> Request {
     let request = fresh::request(random, FEW_ENTRIES);
     match random.below(6) {
-        0 => request.with_parent(growing(random)),
+        0 => {
+            let parent = growing(random);
+            with_long_identities(random, request).with_parent(parent)
+        }
         1 | 2 => near_the_limit(random, request),
         3 => request.with_creator(doubling(random)),
         4 => {
@@ -127,6 +130,19 @@ fn large(random: &mut Random) -> Request {
             let count = 300 + random.below(900);
             request.with_parent(random_list(random, 4, count))
         }
+    }
+}
+
+/// As often as not.
+fn with_long_identities(random: &mut Random, request: Request) -> Request {
+    if random.chance(1, 2) {
+        return request;
+    }
+    let sid = nt_sid(&[random.word(); 15]);
+    Request {
+        owner: sid.clone(),
+        group: sid,
+        ..request
     }
 }
 

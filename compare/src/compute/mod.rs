@@ -8,7 +8,7 @@ use crate::capi;
 use crate::floors;
 use crate::report::Report;
 use generate::Case as Fresh;
-use second::computing::{self, Request};
+use second::computing::{self, Refused, Request};
 use second::hex;
 use second::random::Random;
 use second::records::{Case, encode_all};
@@ -40,7 +40,14 @@ fn compare_one(random: &mut Random, report: &mut Report, fresh: &Fresh) {
             report.add_branch(done.branch.name());
             done.answer.eight()
         }
-        Err(refused) => refused.answer().eight(),
+        Err(refused) => {
+            match refused {
+                Refused::Room => report.add_branch("over the lent length"),
+                Refused::TooLong => report.add_branch("over 65,532 bytes"),
+                _ => {}
+            }
+            refused.answer().eight()
+        }
     };
 
     let lent = request.clone();

@@ -1,9 +1,6 @@
 //! Calls that fill a tree to its limits and go on with it there.
 
-use second::cases::build::{
-    EntryPlan, MOST_NUMBERS, creator_sid, good_list, list_of, nt_sid, random_sid,
-};
-use second::cases::spoil::{one_of_each, spoilt};
+use second::cases::build::{EntryPlan, MOST_NUMBERS, creator_sid, good_list, nt_sid, random_sid};
 use second::cases::tree::make::{entries_of, one_entry, remove_list, set_list, set_owner};
 use second::cases::tree::palette::{Palette, object};
 use second::random::Random;
@@ -11,6 +8,7 @@ use second::tree::{
     Add, Change, LONGEST_LIST, MOST_OBJECTS, MOST_STEPS, NO_PARENT, Object, Start, traits,
 };
 
+use crate::mutate::bad_list;
 use crate::tree::spoil;
 
 /// Of entries.
@@ -217,27 +215,14 @@ impl Maker {
             }
             Change::Add(add) if random.chance(1, 2) => {
                 add.traits |= traits::OWN_LIST;
-                add.list = self.bad_list(random);
+                add.list = bad_list(random);
             }
-            Change::SetList { has_list, list, .. } if random.chance(1, 2) => {
+            Change::SetList { has_list, list, .. } if random.chance(3, 4) => {
                 *has_list = 1;
-                *list = self.bad_list(random);
+                *list = bad_list(random);
             }
             _ => spoil(random, &mut change),
         }
         change
-    }
-
-    /// By its header, or by one of the tests of an entry.
-    fn bad_list(&self, random: &mut Random) -> Vec<u8> {
-        let plans: Vec<EntryPlan> = (0..1 + random.below(4))
-            .map(|_| self.plan(random, &COMING_DOWN))
-            .collect();
-        let mut entries: Vec<Vec<u8>> = plans.iter().map(EntryPlan::bytes).collect();
-        let bad = random.below(plans.len());
-        let spoil = *random.pick(&one_of_each(&plans[bad]));
-        entries[bad] = spoilt(&plans[bad], &[spoil]);
-        let revision = *random.pick(&[4, 4, 4, 4, 4, 3]);
-        list_of(revision, &entries)
     }
 }

@@ -62,8 +62,7 @@ fn by_owner(random: &mut Random, found: &Found, source: usize) -> Vec<Change> {
     };
     let list_of = |bytes| {
         let mut plans = entries_of(flags, bytes);
-        let which = (number % 2) as u32;
-        let placeholder = EntryPlan::plain(0, flags, creator_sid(which));
+        let placeholder = EntryPlan::plain(0, flags, creator_sid(number % 2));
         plans.extend(vec![placeholder; PLACEHOLDERS]);
         vec![owner_of(0), set_list(source as u32, good_list(&plans))]
     };

@@ -1,12 +1,12 @@
 //! Fresh random cases.
 
-use crate::mutate::{TELLING, mutate_identity, mutate_list};
+use crate::mutate::{TELLING, changed_byte, mutate_identity, mutate_list};
 use second::ace::LONGEST_LIST;
 use second::cases::build::{
     EntryPlan, MOST_NUMBERS, creator_sid, fix_size, list_of, list_of_plans, of_creator_authority,
     random_list, random_sid, set_count,
 };
-use second::cases::spoil::{spoilt, thorough};
+use second::cases::spoil::{one_of_each, spoilt, thorough};
 use second::cases::tree::make::entries_of;
 use second::list::HEADER_LENGTH;
 use second::random::Random;
@@ -34,7 +34,7 @@ fn list(random: &mut Random) -> (Vec<u8>, usize) {
     if random.chance(1, 1_500) {
         return long_list(random);
     }
-    if random.chance(1, 300) {
+    if random.chance(1, 200) {
         return long_and_mixed(random);
     }
     let count = entry_count(random);
@@ -144,12 +144,21 @@ fn long_and_mixed(random: &mut Random) -> (Vec<u8>, usize) {
     let plans = differing(random, length - HEADER_LENGTH);
     let count = plans.len();
     let mut entries: Vec<Vec<u8>> = plans.iter().map(EntryPlan::bytes).collect();
-    if random.chance(1, 2) {
-        let late = count - 1 - random.below(count / 4);
-        let spoil = *random.pick(&thorough(&plans[late]));
-        entries[late] = spoilt(&plans[late], &[spoil]);
+    let late = count - 1 - random.below(count / 4);
+    let ways = match random.below(4) {
+        0 | 1 => Vec::new(),
+        2 => one_of_each(&plans[late]),
+        _ => thorough(&plans[late]),
+    };
+    if !ways.is_empty() {
+        entries[late] = spoilt(&plans[late], &[*random.pick(&ways)]);
     }
-    (list_of(4, &entries), count)
+    let mut list = list_of(4, &entries);
+    if random.chance(1, 12) {
+        let at = random.below(HEADER_LENGTH);
+        list[at] = changed_byte(random, list[at]);
+    }
+    (list, count)
 }
 
 /// Entries of this many bytes in all.

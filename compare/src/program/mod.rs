@@ -76,6 +76,7 @@ fn script(random: &mut Random, number: usize) -> Vec<u8> {
             script
         }
         5 | 15 => short_script(random),
+        11 => generate::full_of_refusals(random),
         _ => generate::script(random),
     }
 }

@@ -1,7 +1,7 @@
 //! Fresh random scripts: most of them good from end to end, others cut,
 //! changed in some bytes, of noise, or with a bad head.
 
-use crate::mutate::changed_byte;
+use crate::mutate::{bad_list, changed_byte};
 use crate::tree::spoil;
 use second::cases::build::fix_size;
 use second::cases::script::fresh;
@@ -46,6 +46,24 @@ fn good(random: &mut Random) -> Vec<u8> {
             spoil(random, change);
             cut_to_a_record(change);
         }
+    })
+}
+
+/// Many records, of which every third or so is refused, by every number.
+pub fn full_of_refusals(random: &mut Random) -> Vec<u8> {
+    let palette = Palette::of_weight(random, true);
+    let wanted = 60 + random.below(61);
+    fresh::records(random, &palette, wanted, |random, change| match change {
+        Change::Add(Add { list, .. }) | Change::SetList { list, .. }
+            if !list.is_empty() && random.chance(1, 3) =>
+        {
+            *list = bad_list(random);
+        }
+        _ if random.chance(1, 6) => {
+            spoil(random, change);
+            cut_to_a_record(change);
+        }
+        _ => {}
     })
 }
 

@@ -30,31 +30,30 @@ fn parts(call: &Call) -> Vec<&[u8]> {
 }
 
 pub fn count_shared(report: &mut Report, lending: &Lending, call: &Call) {
-    let lie_together = |one: &[u8], other: &[u8]| lending.shared(one, other) != Shared::Nothing;
-    match call {
+    let whole = |one: &[u8], other: &[u8]| lending.shared(one, other) == Shared::Whole;
+    let overlap = |one: &[u8], other: &[u8]| lending.shared(one, other) != Shared::Nothing;
+    let found = match call {
         Call::Start { start, .. } if start.has_default != 0 => {
             let shared = lending.shared_with_mapping(&start.default_list, start.mapping);
-            if shared != Shared::Nothing {
-                report.add_times("start: a mapping in the list", 1);
-            }
+            vec![("start: a mapping in the list", shared != Shared::Nothing)]
         }
         Call::Change(change @ Change::Add(add)) => {
             let list = change.given_list().unwrap_or_default();
-            if lie_together(list, &add.object_type) {
-                report.add_times("add: the type in the list", 1);
-            }
-            if lie_together(list, &add.owner) {
-                report.add_times("add: the owner in the list", 1);
-            }
-            if lending.shared(&add.owner, &add.group) == Shared::Whole {
-                report.add_times("add: one range for owner and group", 1);
-            }
+            vec![
+                ("add: the type in the list", overlap(list, &add.object_type)),
+                ("add: the owner in the list", overlap(list, &add.owner)),
+                (
+                    "add: one range for owner and group",
+                    whole(&add.owner, &add.group),
+                ),
+            ]
         }
         Call::Change(Change::SetOwner { owner, group, .. }) => {
-            if lending.shared(owner, group) == Shared::Whole {
-                report.add_times("set owner: one range for both", 1);
-            }
+            vec![("set owner: one range for both", whole(owner, group))]
         }
-        _ => {}
+        _ => Vec::new(),
+    };
+    for (what, _) in found.into_iter().filter(|&(_, yes)| yes) {
+        report.add_times(what, 1);
     }
 }
