@@ -37,7 +37,8 @@ STAND_IN = stand_in
 export PIPETEASEL_LIB = target/emulated
 endif
 
-.PHONY: play axs examples c_examples test quick edits lib second stand_in compare hostile cases bench
+.PHONY: play axs examples c_examples test quick edits lib second stand_in hostile cases bench
+.PHONY: compare compare_built compare_list compare_compute compare_tree compare_deep compare_script compare_program
 
 play: axs
 	@$(EMULATED) target/bin/axs <$(SCRIPT)
@@ -66,7 +67,7 @@ test:
 quick:
 	tools/claims
 	rt check
-	$(MAKE) --no-print-directory compare CASES=5000 TREES=5000 DEEP=2 SCRIPTS=5000 PIPED=100
+	$(MAKE) --no-print-directory -j2 --output-sync=target compare CASES=5000 TREES=5000 DEEP=2 SCRIPTS=5000 PIPED=100
 	@echo "quick: all held; no edit was tried, and the gate asks for more: no verdict"
 
 edits: second
@@ -93,14 +94,27 @@ stand_in: lib
 	printf '#!/bin/sh\nexec "%s/tools/emulated" "%s/target/bin/axs" "$$@"\n' "$(CURDIR)" "$(CURDIR)" >target/emulated/axs
 	chmod +x target/emulated/axs
 
-compare: lib axs $(STAND_IN)
+# each layer by itself, so that `make -j` compares several at a time
+COMPARE = target/cargo/release/compare
+compare: compare_list compare_compute compare_tree compare_deep compare_script compare_program
+
+compare_built: lib axs $(STAND_IN)
 	$(CARGO) --manifest-path compare/Cargo.toml
-	target/cargo/release/compare list --cases $(CASES) --seed $(SEED)
-	target/cargo/release/compare compute --cases $(CASES) --seed $(SEED)
-	target/cargo/release/compare tree --cases $(TREES) --seed $(SEED)
-	target/cargo/release/compare deep --cases $(DEEP) --seed $(SEED)
-	target/cargo/release/compare script --cases $(SCRIPTS) --seed $(SEED)
-	target/cargo/release/compare program $(AXS) --cases $(PIPED) --seed $(SEED)
+
+compare_list compare_compute: compare_%: compare_built
+	$(COMPARE) $* --cases $(CASES) --seed $(SEED)
+
+compare_tree: compare_built
+	$(COMPARE) tree --cases $(TREES) --seed $(SEED)
+
+compare_deep: compare_built
+	$(COMPARE) deep --cases $(DEEP) --seed $(SEED)
+
+compare_script: compare_built
+	$(COMPARE) script --cases $(SCRIPTS) --seed $(SEED)
+
+compare_program: compare_built
+	$(COMPARE) program $(AXS) --cases $(PIPED) --seed $(SEED)
 
 # guard pages and valgrind watch the library; the sanitizers watch the C side
 HOSTILE = $(CC) $(C99) -D_DEFAULT_SOURCE -O1 -g hostile/*.c -L. -lpipeteasel
