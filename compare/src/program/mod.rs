@@ -38,15 +38,23 @@ enum Way {
     FullTerminal { size: usize, free: usize },
 }
 
+/// Which ways show something on this machine.
+#[derive(Clone, Copy)]
+struct Shown {
+    full_pipe: bool,
+    /// The size of a terminal that cuts writes.
+    cutting: Option<usize>,
+}
+
 pub fn compare(path: &str, cases: usize, seed: u64) -> Report {
     let mut seeds = Random::new(seed);
     let mut report = Report::new("program", &floors::PROGRAM);
-    let cutting = ask_the_witness(&mut report, Random::new(seeds.draw()));
+    let shown = ask_the_witness(&mut report, Random::new(seeds.draw()));
     for number in 1..=cases {
         let mut random = Random::new(seeds.draw());
         let script = script(&mut random, number);
         let expected = play_and_count(&mut report, &script).text;
-        let way = way(&mut random, number, expected.len(), cutting);
+        let way = way(&mut random, number, expected.len(), shown);
         let difference = match run(Command::new(path), &script, way, random) {
             Ok(ran) if ran.taken.text == expected.as_bytes() => {
                 count_seen(&mut report, &ran);
@@ -90,15 +98,14 @@ fn short_script(random: &mut Random) -> Vec<u8> {
     }
 }
 
-/// Fewer bytes are free than the text has. `cutting` is the size of a terminal
-/// that cuts writes.
-fn way(random: &mut Random, number: usize, text: usize, cutting: Option<usize>) -> Way {
-    match (number % ONE_IN, cutting) {
-        (5 | 15, _) => Way::SingleBytes,
-        (7 | 17, _) => Way::FullPipe {
+/// Fewer bytes are free than the text has.
+fn way(random: &mut Random, number: usize, text: usize, shown: Shown) -> Way {
+    match (number % ONE_IN, shown.full_pipe, shown.cutting) {
+        (5 | 15, _, _) => Way::SingleBytes,
+        (7 | 17, true, _) => Way::FullPipe {
             free: random.below(text),
         },
-        (9 | 19, Some(size)) => Way::FullTerminal {
+        (9 | 19, _, Some(size)) => Way::FullTerminal {
             size,
             free: 1 + random.below(text - 1),
         },
@@ -161,10 +168,9 @@ fn count_seen(report: &mut Report, ran: &Ran) {
     report.add_times(SHORT, usize::from(ran.taken.short.is_some()));
 }
 
-/// Runs a program that counts its reads and writes, in each of the ways. Gives
-/// the size of a terminal, where it cuts a write; where none does, that isn't
-/// asked for.
-fn ask_the_witness(report: &mut Report, mut random: Random) -> Option<usize> {
+/// Runs a program that counts its reads and writes, in each of the ways. A way
+/// in which nothing can be seen on this machine isn't asked for.
+fn ask_the_witness(report: &mut Report, mut random: Random) -> Shown {
     let mut seen = |name, way| {
         let seen = witnessed(way, Random::new(random.draw()));
         report.note(match &seen {
@@ -174,18 +180,22 @@ fn ask_the_witness(report: &mut Report, mut random: Random) -> Option<usize> {
         seen.unwrap_or_default()
     };
     let single = seen("single bytes", Way::SingleBytes);
-    seen("a full pipe", Way::FullPipe { free: 100 });
+    let waited = seen("a full pipe", Way::FullPipe { free: 100 });
     let size = output::terminal_size().unwrap_or(0);
     let free = witness::TEXT.len() / 2;
     let cut = seen("a full terminal", Way::FullTerminal { size, free });
     if (single.reads, single.longest_read) != (WITNESSED, 1) {
         report.add_case(Some("the witness's reads were no single bytes".to_string()));
     }
-    if cut.first_write != free {
-        report.not_asked_here(SHORT, "no terminal cuts the witness's write");
-        return None;
+    let full_pipe = waited.writes > 0;
+    if !full_pipe {
+        report.not_asked_here(WAITED, "no waiting write is seen");
     }
-    Some(size)
+    let cutting = (cut.first_write == free).then_some(size);
+    if cutting.is_none() {
+        report.not_asked_here(SHORT, "no terminal cuts the witness's write");
+    }
+    Shown { full_pipe, cutting }
 }
 
 fn witnessed(way: Way, random: Random) -> Result<Seen, String> {
