@@ -38,7 +38,7 @@ export PIPETEASEL_LIB = target/emulated
 endif
 
 .PHONY: play axs examples c_examples test quick edits lib second stand_in hostile cases bench
-.PHONY: compare compare_built compare_list compare_compute compare_tree compare_deep compare_script compare_program
+.PHONY: compare compare_built compare_tests compare_list compare_compute compare_tree compare_deep compare_script compare_program
 
 play: axs
 	@$(EMULATED) target/bin/axs <$(SCRIPT)
@@ -100,6 +100,10 @@ compare: compare_list compare_compute compare_tree compare_deep compare_script c
 
 compare_built: lib axs $(STAND_IN)
 	$(CARGO) --manifest-path compare/Cargo.toml
+
+# that a tally under its floor, or a number that never came, fails a run
+compare_tests: compare_built
+	cargo test --quiet --release --offline --target-dir target/cargo --manifest-path compare/Cargo.toml
 
 compare_list compare_compute: compare_%: compare_built
 	$(COMPARE) $* --cases $(CASES) --seed $(SEED)
