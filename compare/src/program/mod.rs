@@ -38,23 +38,15 @@ enum Way {
     FullTerminal { size: usize, free: usize },
 }
 
-/// Which ways show something on this machine.
-#[derive(Clone, Copy)]
-struct Shown {
-    full_pipe: bool,
-    /// The size of a terminal that cuts writes.
-    cutting: Option<usize>,
-}
-
 pub fn compare(path: &str, cases: usize, seed: u64) -> Report {
     let mut seeds = Random::new(seed);
     let mut report = Report::new("program", &floors::PROGRAM);
-    let shown = ask_the_witness(&mut report, Random::new(seeds.draw()));
+    let usable = ask_the_witness(&mut report, Random::new(seeds.draw()));
     for number in 1..=cases {
         let mut random = Random::new(seeds.draw());
         let script = script(&mut random, number);
         let expected = play_and_count(&mut report, &script).text;
-        let way = way(&mut random, number, expected.len(), shown);
+        let way = way(&mut random, number, expected.len(), &usable);
         let difference = match run(Command::new(path), &script, way, random) {
             Ok(ran) if ran.taken.text == expected.as_bytes() => {
                 count_seen(&mut report, &ran);
@@ -99,14 +91,14 @@ fn short_script(random: &mut Random) -> Vec<u8> {
 }
 
 /// Fewer bytes are free than the text has.
-fn way(random: &mut Random, number: usize, text: usize, shown: Shown) -> Way {
-    match (number % ONE_IN, shown.full_pipe, shown.cutting) {
-        (5 | 15, _, _) => Way::SingleBytes,
-        (7 | 17, true, _) => Way::FullPipe {
+fn way(random: &mut Random, number: usize, text: usize, usable: &Usable) -> Way {
+    match number % ONE_IN {
+        5 | 15 => Way::SingleBytes,
+        7 | 17 if usable.full_pipe => Way::FullPipe {
             free: random.below(text),
         },
-        (9 | 19, _, Some(size)) => Way::FullTerminal {
-            size,
+        9 | 19 if usable.full_terminal => Way::FullTerminal {
+            size: usable.terminal_size,
             free: 1 + random.below(text - 1),
         },
         _ => Way::Pieces,
@@ -168,37 +160,52 @@ fn count_seen(report: &mut Report, ran: &Ran) {
     report.add_times(SHORT, usize::from(ran.taken.short.is_some()));
 }
 
-/// Runs a program that counts its reads and writes, in each of the ways. A way
-/// in which nothing can be seen on this machine isn't asked for.
-fn ask_the_witness(report: &mut Report, mut random: Random) -> Shown {
-    let mut seen = |name, way| {
-        let seen = witnessed(way, Random::new(random.draw()));
-        report.note(match &seen {
-            Ok(seen) => format!("witness, {name}: {seen}"),
+/// What this machine lets be had and seen.
+struct Usable {
+    full_pipe: bool,
+    full_terminal: bool,
+    terminal_size: usize,
+}
+
+/// Runs a program that counts its reads and writes, in each of the ways. What a
+/// machine doesn't let be had or seen isn't asked for, and that is told.
+fn ask_the_witness(report: &mut Report, mut random: Random) -> Usable {
+    let mut ask = |name, way| {
+        let asked = witnessed(way, Random::new(random.draw()));
+        report.note(match &asked {
+            Ok((seen, _)) => format!("witness, {name}: {seen}"),
             Err(why) => format!("witness, {name}: {why}"),
         });
-        seen.unwrap_or_default()
+        asked.unwrap_or_default()
     };
-    let single = seen("single bytes", Way::SingleBytes);
-    let waited = seen("a full pipe", Way::FullPipe { free: 100 });
-    let size = output::terminal_size().unwrap_or(0);
     let free = witness::TEXT.len() / 2;
-    let cut = seen("a full terminal", Way::FullTerminal { size, free });
+    let terminal_size = output::terminal_size().unwrap_or(0);
+    let (single, _) = ask("single bytes", Way::SingleBytes);
+    let (_, waited) = ask("a full pipe", Way::FullPipe { free });
+    let cutting = Way::FullTerminal {
+        size: terminal_size,
+        free,
+    };
+    let (cut, _) = ask("a full terminal", cutting);
+    let usable = Usable {
+        full_pipe: waited,
+        full_terminal: cut.first_write == free,
+        terminal_size,
+    };
     if (single.reads, single.longest_read) != (WITNESSED, 1) {
         report.add_case(Some("the witness's reads were no single bytes".to_string()));
     }
-    let full_pipe = waited.writes > 0;
-    if !full_pipe {
-        report.not_asked_here(WAITED, "no waiting write is seen");
+    if !usable.full_pipe {
+        report.not_asked_here(WAITED, "the witness isn't seen to wait");
     }
-    let cutting = (cut.first_write == free).then_some(size);
-    if cutting.is_none() {
+    if !usable.full_terminal {
         report.not_asked_here(SHORT, "no terminal cuts the witness's write");
     }
-    Shown { full_pipe, cutting }
+    usable
 }
 
-fn witnessed(way: Way, random: Random) -> Result<Seen, String> {
+/// What it told, and whether it was seen to wait.
+fn witnessed(way: Way, random: Random) -> Result<(Seen, bool), String> {
     let failed = |why: io::Error| why.to_string();
     let mut program = Command::new(env::current_exe().map_err(failed)?);
     program.arg("witness").stderr(Stdio::piped());
@@ -206,5 +213,6 @@ fn witnessed(way: Way, random: Random) -> Result<Seen, String> {
     if ran.taken.text != witness::TEXT {
         return Err("its text didn't come back".to_string());
     }
-    Seen::parse(&ran.said).ok_or_else(|| format!("it said {:?}", ran.said))
+    let seen = Seen::parse(&ran.said).ok_or_else(|| format!("it said {:?}", ran.said))?;
+    Ok((seen, ran.taken.waited))
 }
