@@ -43,7 +43,7 @@ pub static LIST: Floors = Floors {
     others: &[],
     greatest: &[
         ("longest list that was read", 65_532),
-        ("most entries of a list", 4_000),
+        ("most entries of a list", 1_000),
         ("latest offset of a refusal", 60_000),
     ],
 };

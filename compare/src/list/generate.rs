@@ -137,8 +137,9 @@ fn long_list(random: &mut Random) -> (Vec<u8>, usize) {
 /// Thousands of entries that differ in type, word and length, in up to 65,532
 /// bytes. In half of them a late one is spoilt.
 fn long_and_mixed(random: &mut Random) -> (Vec<u8>, usize) {
-    let length = match random.below(4) {
-        0 => LONGEST_LIST - 4 * random.below(8),
+    let length = match random.below(8) {
+        0 => LONGEST_LIST,
+        1 => LONGEST_LIST - 4 * random.below(8),
         _ => 20_000 + 4 * random.below(11_383),
     };
     let plans = differing(random, length - HEADER_LENGTH);
