@@ -15,6 +15,7 @@ const USAGE: &str = "usage:
   second cases inherit          write the stored cases for the computation
   second cases tree             write the stored calls on a tree
   second cases script           write the stored scripts
+  second sample EVERY           write one of so many cases of the case file on standard input
   second answer                 answer the case file on standard input
   second check-examples FILE    compare with the answers written by hand
   second tally                  count the answers to the case file on standard input
@@ -35,6 +36,7 @@ fn main() -> ExitCode {
         ["cases", "inherit"] => write_cases(&cases::inherit::all()),
         ["cases", "tree"] => write_cases(&cases::tree::all()),
         ["cases", "script"] => write_cases(&cases::script::all()),
+        ["sample", every] => sample(every),
         ["answer"] => answer(),
         ["check-examples", path] => check_examples(path),
         ["tally"] => tally(),
@@ -54,6 +56,12 @@ fn main() -> ExitCode {
 
 fn write_cases(cases: &[Case]) -> Result<(), String> {
     write_out(&records::encode_all(cases))
+}
+
+fn sample(every: &str) -> Result<(), String> {
+    let every = every.parse().ok().filter(|&every| every > 0);
+    let every = every.ok_or("no number of cases")?;
+    write_cases(&records::sampled(read_cases()?, every))
 }
 
 fn answer() -> Result<(), String> {

@@ -98,6 +98,20 @@ fn decode(file: &[u8]) -> Result<(Case, &[u8]), &'static str> {
     Ok((case, rest))
 }
 
+/// The first of every so many cases; the calls on a tree stay with the start
+/// before them.
+pub fn sampled(cases: Vec<Case>, every: usize) -> Vec<Case> {
+    let mut begun = 0;
+    let mut sample = cases;
+    sample.retain(|case| {
+        if !matches!(case, Case::Tree(call) if !matches!(call, Call::Start { .. })) {
+            begun += 1;
+        }
+        begun % every == 1 % every
+    });
+    sample
+}
+
 /// Before a read, the row's element i holds 65535 - i.
 pub fn fresh_row(length: u16) -> Vec<u16> {
     (0..length).map(|i| u16::MAX - i).collect()
@@ -147,6 +161,7 @@ fn identity_line(bytes: &[u8]) -> String {
 #[cfg(test)]
 mod tests {
     use super::*;
+    use crate::tree::Start;
 
     #[test]
     fn records_come_back() {
@@ -178,6 +193,27 @@ mod tests {
         let file = encode_all(&cases);
         assert_eq!(decode_all(&file).unwrap(), cases);
         assert_eq!(answer_lines(&cases).lines().count(), cases.len());
+    }
+
+    #[test]
+    fn a_sample_keeps_calls_with_their_start() {
+        let start = Call::Start {
+            room_length: 0,
+            start: Start {
+                objects: 1,
+                steps: 0,
+                rule: 1,
+                mapping: [0; 4],
+                has_default: 0,
+                default_list: vec![],
+            },
+        };
+        let calls = [start.clone(), Call::Undo, start, Call::Counts, Call::Undo];
+        let cases: Vec<Case> = calls.map(Case::Tree).to_vec();
+        assert_eq!(sampled(cases.clone(), 1), cases);
+        assert_eq!(sampled(cases.clone(), 2), cases[..2]);
+        let reads = vec![Case::Identity(vec![]), Case::read(0, vec![])];
+        assert_eq!(sampled(reads.clone(), 2), reads[..1]);
     }
 
     #[test]
