@@ -24,6 +24,8 @@ use witness::Seen;
 const ONE_IN: usize = 20;
 /// Of the witness's input.
 const WITNESSED: usize = 300;
+/// How often it is asked, where a terminal doesn't cut its write at once.
+const TRIES: usize = 3;
 /// Names of the report.
 const SINGLE: &str = "reads of a single byte";
 const WAITED: &str = "writes to a full pipe that waited";
@@ -49,7 +51,7 @@ pub fn compare(path: &str, cases: usize, seed: u64) -> Report {
         let way = way(&mut random, number, expected.len(), &usable);
         let difference = match run(Command::new(path), &script, way, random) {
             Ok(ran) if ran.taken.text == expected.as_bytes() => {
-                count_seen(&mut report, &ran);
+                count_seen(&mut report, way, &ran);
                 None
             }
             Ok(ran) => Some(format!(
@@ -117,7 +119,10 @@ fn run(mut program: Command, script: &[u8], way: Way, mut random: Random) -> Res
     let (goes_to, output) = match way {
         Way::Pieces | Way::SingleBytes => output::pipe(),
         Way::FullPipe { free } => output::full_pipe(free),
-        Way::FullTerminal { size, free } => output::full_terminal(size, free),
+        // A terminal that can't be filled in time says nothing of the program.
+        Way::FullTerminal { size, free } => {
+            output::full_terminal(size, free).or_else(|_| output::pipe())
+        }
     }
     .map_err(|why| format!("output: {why}"))?;
     let spawned = program.stdin(Stdio::piped()).stdout(goes_to).spawn();
@@ -151,13 +156,13 @@ fn end(child: Child) -> Result<String, String> {
     }
 }
 
-fn count_seen(report: &mut Report, ran: &Ran) {
-    report.add_times(SINGLE, ran.single_bytes);
-    report.add_times(
-        WAITED,
-        usize::from(ran.taken.waited && ran.taken.short.is_none()),
-    );
-    report.add_times(SHORT, usize::from(ran.taken.short.is_some()));
+fn count_seen(report: &mut Report, way: Way, ran: &Ran) {
+    match way {
+        Way::Pieces => {}
+        Way::SingleBytes => report.add_times(SINGLE, ran.single_bytes),
+        Way::FullPipe { .. } => report.add_times(WAITED, ran.taken.waited.into()),
+        Way::FullTerminal { .. } => report.add_times(SHORT, ran.taken.short.is_some().into()),
+    }
 }
 
 /// What this machine lets be had and seen.
@@ -179,29 +184,27 @@ fn ask_the_witness(report: &mut Report, mut random: Random) -> Usable {
         asked.unwrap_or_default()
     };
     let free = witness::TEXT.len() / 2;
-    let terminal_size = output::terminal_size().unwrap_or(0);
+    let size = output::terminal_size().unwrap_or(0);
     let (single, _) = ask("single bytes", Way::SingleBytes);
     let (_, waited) = ask("a full pipe", Way::FullPipe { free });
-    let cutting = Way::FullTerminal {
-        size: terminal_size,
-        free,
-    };
-    let (cut, _) = ask("a full terminal", cutting);
-    let usable = Usable {
-        full_pipe: waited,
-        full_terminal: cut.first_write == free,
-        terminal_size,
-    };
+    let cuts = (0..TRIES).any(|_| {
+        let (seen, _) = ask("a full terminal", Way::FullTerminal { size, free });
+        seen.writes > 1
+    });
     if (single.reads, single.longest_read) != (WITNESSED, 1) {
         report.add_case(Some("the witness's reads were no single bytes".to_string()));
     }
-    if !usable.full_pipe {
+    if !waited {
         report.not_asked_here(WAITED, "the witness isn't seen to wait");
     }
-    if !usable.full_terminal {
+    if !cuts {
         report.not_asked_here(SHORT, "no terminal cuts the witness's write");
     }
-    usable
+    Usable {
+        full_pipe: waited,
+        full_terminal: cuts,
+        terminal_size: size,
+    }
 }
 
 /// What it told, and whether it was seen to wait.

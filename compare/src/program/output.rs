@@ -22,6 +22,8 @@ use super::posix::{Terminal, go_on, shrink_pipe, stop};
 use super::watch::{has_ended, is_stopped, until, waits_to_write};
 use second::random::Random;
 
+/// So a terminal says that nobody writes to it any more.
+const EIO: i32 = 5;
 const FILLING: u8 = b'.';
 /// Of a terminal's buffers, which are taken one by one as bytes come.
 const AT_A_TIME: usize = 256;
@@ -179,7 +181,6 @@ fn drained(mut reader: impl Read, inside: usize, random: &mut Random) -> Result<
         match reader.read(&mut piece) {
             Ok(0) => break,
             Ok(taken) => all.extend(&piece[..taken]),
-            // So a terminal says that nobody writes to it any more.
             Err(why) if why.raw_os_error() == Some(EIO) => break,
             Err(why) => return Err(format!("reading: {why}")),
         }
@@ -192,5 +193,3 @@ fn drained(mut reader: impl Read, inside: usize, random: &mut Random) -> Result<
     }
     Ok(all.split_off(inside))
 }
-
-const EIO: i32 = 5;
