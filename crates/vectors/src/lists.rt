@@ -62,18 +62,29 @@ fn run_list(list: &[u8], m: usize) -> bool {
     true
 }
 
+// Whether the identity that was made tells what the call told: none where that is 6, else which placeholder it is.
+fn agrees(number: u32, ok: bool, kind: u8) -> bool {
+    if ok {
+        return number == kind as u32;
+    }
+    number == 6
+}
+
+// False where two functions tell differently of an identity.
 fn run_identity(bytes: &[u8]) -> bool {
+    let number = capi::pt_identity(bytes);
     let made = list::Sid::from_bytes(bytes);
+    let ok = made.ok;
     let sid = made.sid;
     let len = sid.len;
     let buffer = sid.bytes;
-    print_word(capi::pt_identity(bytes));
+    print_word(number);
     print_space();
     print_size(len);
     print_space();
     print_bytes(&buffer);
     end_line();
-    true
+    agrees(number, ok, sid.placeholder())
 }
 
 fn run_payload(kind: u8, m: usize, payload: &[u8]) -> bool {
