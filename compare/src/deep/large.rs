@@ -4,11 +4,10 @@
 //! against them.
 
 use second::answer::Answer;
-use second::computing::{self, Request, setting};
 use second::room::{Found, Step};
 use second::tree::{
-    Call, Calls, Change, LONGEST_LIST, Object, Outcome, Refused, Settings, Tree, all_lists, apply,
-    list_answer, play_on,
+    Call, Calls, Change, Object, Outcome, Refused, Settings, Tree, all_lists, apply, list_answer,
+    list_below, play_on,
 };
 
 type Lists = Vec<Option<Vec<u8>>>;
@@ -85,7 +84,7 @@ impl Large {
         let mut objects = Vec::new();
         let mut steps = Vec::new();
         for change in &tree.log {
-            steps.insert(0, step(change, &objects));
+            steps.insert(0, Step::of(change, &objects));
             apply(&mut objects, change);
         }
         steps.truncate(found.steps.len());
@@ -142,7 +141,7 @@ impl Calls for Standing {
             });
             Refused::ComputedTooLong
         })?;
-        found.steps.insert(0, step(change, &found.objects));
+        found.steps.insert(0, Step::of(change, &found.objects));
         self.forgotten += usize::from(found.steps.len() > found.limits.steps);
         found.steps.truncate(found.limits.steps);
         found.objects = objects;
@@ -170,17 +169,6 @@ impl Calls for Standing {
     }
 }
 
-fn step(change: &Change, before: &[Object]) -> Step {
-    let object = change.object(before.len());
-    match before.get(object) {
-        None => Step::Add,
-        Some(own_data) => Step::Other {
-            object,
-            before: own_data.clone(),
-        },
-    }
-}
-
 /// Whether all lists would be short enough after these changes, which are good
 /// in themselves.
 pub fn fits(found: &Found, changes: &[Change]) -> bool {
@@ -196,43 +184,9 @@ fn lists_in_turn(settings: &Settings, objects: &[Object]) -> Result<Lists, TooLo
     let mut lists = Lists::new();
     for (number, object) in objects.iter().enumerate() {
         let parents = object.parent.and_then(|parent| lists[parent].clone());
-        lists.push(list(settings, object, parents).ok_or(number)?);
+        lists.push(list_below(settings, object, parents).map_err(|_| number)?);
     }
     Ok(lists)
-}
-
-/// Document 01: with the parent's computed list, auto inherit yes and default
-/// descriptor no. `None` where it is too long.
-fn list(settings: &Settings, object: &Object, parents: Option<Vec<u8>>) -> Option<Option<Vec<u8>>> {
-    let yes_or_no = [
-        (setting::PARENT, parents.is_some()),
-        (setting::CREATOR, object.own_list.is_some()),
-        (setting::DEFAULT_LIST, settings.default_list.is_some()),
-        (setting::CONTAINER, object.is_container),
-        (setting::AUTO_INHERIT, true),
-        (setting::PROTECTED, object.is_protected),
-    ];
-    let chosen = yes_or_no.into_iter().filter(|&(_, yes)| yes);
-    let request = Request {
-        rule: settings.rule,
-        settings: chosen.map(|(bit, _)| bit).sum(),
-        mapping: settings.mapping,
-        parent: parents.unwrap_or_default(),
-        creator: object.own_list.clone().unwrap_or_default(),
-        default_list: settings.default_list.clone().unwrap_or_default(),
-        types: object.object_type.to_vec(),
-        owner: object.owner.clone(),
-        group: object.group.clone(),
-    };
-    let mut out = vec![0; LONGEST_LIST];
-    let answer = computing::compute(&request, &mut out);
-    match answer.number {
-        0 => {}
-        8 => return None,
-        number => panic!("good parts of an object are refused by {number}"),
-    }
-    out.truncate(answer.length as usize);
-    Some((answer.present == 1).then_some(out))
 }
 
 /// How many objects stand from the root to each, both counted.

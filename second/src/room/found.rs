@@ -53,7 +53,8 @@ impl From<&Tree> for Found {
 }
 
 impl Step {
-    fn of(change: &Change, before: &[Object]) -> Step {
+    /// The step that this change, made to these objects, keeps.
+    pub fn of(change: &Change, before: &[Object]) -> Step {
         let object = change.object(before.len());
         match before.get(object) {
             None => Step::Add,

@@ -9,7 +9,7 @@ mod refused;
 
 pub use call::{Add, Call, Change, Part, Start, traits};
 pub use calls::{Calls, list_answer};
-pub use object::{Object, Settings, all_lists, apply};
+pub use object::{Object, Settings, all_lists, apply, list_below};
 pub use player::{OUT_BEFORE, Outcome, Player, play_on};
 pub use refused::Refused;
 

@@ -88,6 +88,15 @@ pub fn computed_list(
         Some(parent) => computed_list(settings, objects, parent)?,
         None => None,
     };
+    list_below(settings, object, parents)
+}
+
+/// The object's list where its parent's computed list is this one.
+pub fn list_below(
+    settings: &Settings,
+    object: &Object,
+    parents: Option<Vec<u8>>,
+) -> Result<Option<Vec<u8>>, Refused> {
     let request = request(settings, object, parents);
     let mut out = vec![0; LONGEST_LIST];
     let answer = computing::compute(&request, &mut out);
