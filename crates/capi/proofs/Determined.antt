@@ -46,7 +46,7 @@ pub pt-compute-determined : Determines 7 pt-compute.ps pt-compute.r
     (λ κs x y s t. (now (s .1 .1 .1 .1 .1 .1 .1 .1 .1 .0) ≡ now (t .1 .1 .1 .1 .1 .1 .1 .1 .1 .0))
     × (now (s .1 .1 .1 .1 .1 .1 .1 .1 .1 .1 .0) ≡ now (t .1 .1 .1 .1 .1 .1 .1 .1 .1 .1 .0)))
     pt-compute-reads.Learnt
-pt-compute-determined κs a x y s t p q = (p .1 ∙ sym (q .1), p .0 ∙ sym (q .0))
+pt-compute-determined κs a x y s t p q = (p .buffer ∙ sym (q .buffer), p .answer ∙ sym (q .answer))
 
 -- the formula
 pub pt-room-determined : OneResult 0 pt-room.ps pt-room.r pt-room-reads.Learnt

@@ -1,11 +1,13 @@
 -- The eight 32-bit numbers in which a call answers, and arguments that are passed as numbers.
 use Prim.Native.Nat.{ℕ}
+use mathlib.Core.Path.{_≡_}
 use mathlib.Core.List.{List, [], _∷_}
 use mathlib.Core.Bool.{Bool, not}
-use lib.ListN.{getD}
+use lib.ListN.{length, getD}
 use lib.Dec.{eqb}
 use Rattle.list.specs.Answer.{Values}
-use Rattle.inherit.specs.Given.{has, lent}
+use Rattle.inherit.specs.Asked.{Asked, has, lent}
+use Rattle.inherit.specs.Compute.{computeOf, outOf}
 use Rattle.inherit.specs.declared.Settings.{Settings}
 use Rattle.inherit.specs.declared.Mapping.{Mapping}
 use Rattle.tree.specs.Held.{New}
@@ -30,6 +32,11 @@ settingsOf bits =
 -- a mapping's four masks: read, write, execute, all
 abbrev pub mappingOf : List ℕ → Mapping
 mappingOf m = record { read = getD m 0 0; write = getD m 1 0; execute = getD m 2 0; all = getD m 3 0 }
+
+-- the promise of a computation: the answer of what is asked in its places, and what the buffer holds afterwards
+pub record Computes (a : Asked) (out places after : List ℕ) : Type 0 where
+  pub answer : places ≡ placesOf (computeOf a (length out))
+  pub buffer : after ≡ outOf a out
 
 -- a flag that is passed as a number: yes where it isn't 0
 abbrev pub yesOf : ℕ → Bool

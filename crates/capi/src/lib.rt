@@ -4,15 +4,15 @@ ghost use lib.ListN.{length};
 ghost use Rattle.list.specs.Identity.{identityOf};
 ghost use Rattle.list.specs.Entry.{access};
 ghost use Rattle.list.specs.List.{readOf, rowBy};
-ghost use Rattle.list.specs.Answer.{answerOf};
-ghost use Rattle.inherit.specs.Given.{has as Given·has};
-ghost use Rattle.inherit.specs.Given.{lent};
-ghost use Rattle.inherit.specs.Compute.{valuesOf, answerFor, outFor};
+ghost use Rattle.list.specs.Answer.{readValues};
+ghost use Rattle.inherit.specs.Asked.{has as Given·has};
+ghost use Rattle.inherit.specs.Asked.{lent};
+ghost use Rattle.inherit.specs.Compute.{askedBy};
 ghost use Rattle.tree.specs.Held.{yes};
 ghost use Rattle.tree.specs.Room.{roomOf};
-ghost use Rattle.tree.specs.Calls.{list as Edit·list, mark as Edit·mark, owners as Edit·owners, valuesOf as Calls·valuesOf, startTo, addTo, alterTo, undoTo, listTo, ownTo, dataTo, countsTo};
+ghost use Rattle.tree.specs.Calls.{list as Edit·list, mark as Edit·mark, owners as Edit·owners, answerValues as Calls·valuesOf, startTo, addTo, alterTo, undoTo, listTo, ownTo, dataTo, countsTo};
 ghost use Rattle.script.specs.Play.{playTo};
-ghost use Rattle.capi.specs.Places.{placesOf, settingsOf, mappingOf, yesOf, newOf};
+ghost use Rattle.capi.specs.Places.{placesOf, settingsOf, mappingOf, yesOf, newOf, Computes};
 use inherit::Computed;
 use inherit::Mapping;
 use inherit::Settings;
@@ -78,7 +78,7 @@ pub extern "C" fn pt_identity(bytes: &[u8]) -> u32
 // Reads a list, with the offset of each entry in the row.
 #[no_mangle]
 pub extern "C" fn pt_read(list: &[u8], row: &mut [u16], answer: &mut [u32; 8])
-    ensures answer { λ _. ⌜ now (answer .exit) ≡ placesOf (answerOf (now (list .entry)) (length (now (row .entry)))) ⌝ }
+    ensures answer { λ _. ⌜ now (answer .exit) ≡ placesOf (readValues (now (list .entry)) (length (now (row .entry)))) ⌝ }
     ensures index { λ _. ⌜ now (row .exit) ≡ rowBy (readOf access (now (list .entry)) (length (now (row .entry)))) (now (list .entry)) (now (row .entry)) ⌝ }
 {
     match list::read(list, row) {
@@ -115,8 +115,7 @@ pub extern "C" fn pt_compute<'a>(
     out: &mut [u8],
     answer: &mut [u32; 8],
 )
-    ensures answer { λ _. ⌜ now (answer .exit) ≡ placesOf (valuesOf (answerFor rule (settingsOf settings) (mappingOf (now (mapping .entry))) (now (parent .entry)) (now (creator .entry)) (now (default .entry)) (now (types .entry)) (now (owner .entry)) (now (group .entry)) (length (now (out .entry))))) ⌝ }
-    ensures result { λ _. ⌜ now (out .exit) ≡ outFor rule (settingsOf settings) (mappingOf (now (mapping .entry))) (now (parent .entry)) (now (creator .entry)) (now (default .entry)) (now (types .entry)) (now (owner .entry)) (now (group .entry)) (now (out .entry)) ⌝ }
+    ensures { λ _. ⌜ Computes (askedBy rule (settingsOf settings) (mappingOf (now (mapping .entry))) (now (parent .entry)) (now (creator .entry)) (now (default .entry)) (now (types .entry)) (now (owner .entry)) (now (group .entry))) (now (out .entry)) (now (answer .exit)) (now (out .exit)) ⌝ }
 {
     let m = mapping_of(mapping);
     match inherit::compute(

@@ -17,7 +17,7 @@ use Rattle.list.proofs.Remade.{cut-same, cut-middle, cut-sid, cut-tail, cut-len
 use Rattle.inherit.specs.declared.copies.Pass.{Pass}
 use Rattle.inherit.specs.declared.copies.Pass.the-variants.{First, Second, Own, All}
 use Rattle.inherit.specs.declared.Mapping.{Mapping}
-use Rattle.inherit.specs.Given.{Given, has}
+use Rattle.inherit.specs.Asked.{Given, has}
 use Rattle.inherit.specs.Copies.{among, typeApplies, takesFirst, takesSecond}
 use Rattle.inherit.specs.Last.{inPlace, resolved}
 use Rattle.inherit.specs.Compute.{anyObject}

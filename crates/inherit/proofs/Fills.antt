@@ -17,11 +17,11 @@ use Rattle.inherit.specs.declared.whole.Parts.{Parts}
 use Rattle.inherit.specs.declared.copies.Pass.{Pass}
 use Rattle.inherit.specs.declared.copies.Pass.the-variants.{First, Second, Own, All}
 use Rattle.inherit.specs.declared.Computed.the-variants.{Present, Absent, Refused}
-use Rattle.inherit.specs.Given.{Given}
+use Rattle.inherit.specs.Asked.{Given}
 use Rattle.inherit.specs.Last.{resolved}
-use Rattle.inherit.specs.Compute.{revFor, sizeFor, withRoom, bytesFor, outBy}
+use Rattle.inherit.specs.Compute.{revFor, sizeFor, withRoom, bytesFor, written, Ends}
 use Rattle.inherit.specs.Emit.{takesBy, flagsBy, emitOf, emitAll, measureOf}
-use Rattle.inherit.specs.Plan.{gathered, resultBy, Filled}
+use Rattle.inherit.specs.Plan.{gathered, resultBy}
 use Rattle.inherit.proofs.Emits.{flatten-append}
 
 -- each entry is eight bytes long at the least, so their number fits where their bytes do
@@ -67,38 +67,38 @@ module _ (g : Given) (q : Plan) (n : Parts) (p c d : List ℕ) where
       (append-eight (emitAll g Second b) (emitAll g All e) (all-eight g Second b) (all-eight g All e)))
 
   module _ (out : List ℕ) where
-    pub fill-absent : q .absent ≡ true → Filled g q n p c d out Absent out
-    unfolding withRoom resultBy outBy
-    fill-absent h = record { answer = rw h; bytes = rw h }
+    pub fill-absent : q .absent ≡ true → Ends (resultBy q (gathered g n p c d)) out Absent out
+    unfolding withRoom resultBy written
+    fill-absent h = record { answer = record { values = rw h; refuses = rw h }; buffer = rw h }
 
     module _ (h : q .absent ≡ false) where
-      pub fill-short : length out < sizeFor (gathered g n p c d) → Filled g q n p c d out (Refused 8 0 0) out
-      unfolding withRoom resultBy outBy
+      pub fill-short : length out < sizeFor (gathered g n p c d) → Ends (resultBy q (gathered g n p c d)) out (Refused 8 0 0) out
+      unfolding withRoom resultBy written
       fill-short k =
           let e = lt-leb (sizeFor (gathered g n p c d)) (length out) k in
-          record { answer = rw (h, e); bytes = rw (h, e) }
+          record { answer = record { values = rw (h, e); refuses = rw (h, e) }; buffer = rw (h, e) }
 
-      pub fill-long : sizeFor (gathered g n p c d) ≤ length out → 65532 < sizeFor (gathered g n p c d) → Filled g q n p c d out (Refused 8 0 0) out
-      unfolding withRoom resultBy outBy
+      pub fill-long : sizeFor (gathered g n p c d) ≤ length out → 65532 < sizeFor (gathered g n p c d) → Ends (resultBy q (gathered g n p c d)) out (Refused 8 0 0) out
+      unfolding withRoom resultBy written
       fill-long k m =
           let e = le-leb (sizeFor (gathered g n p c d)) (length out) k in
           let f = lt-leb (sizeFor (gathered g n p c d)) 65532 m in
-          record { answer = rw (h, e, f); bytes = rw (h, e, f) }
+          record { answer = record { values = rw (h, e, f); refuses = rw (h, e, f) }; buffer = rw (h, e, f) }
 
       pub fill-done : sizeFor (gathered g n p c d) ≤ length out → sizeFor (gathered g n p c d) ≤ 65532 → (out′ : List ℕ)
           → out′ ≡ front (render (revFor (gathered g n p c d)) (gathered g n p c d)) out
-          → Filled g q n p c d out (Present (sizeFor (gathered g n p c d)) (length (gathered g n p c d)) (q .control)) out′
-      unfolding withRoom resultBy outBy bytesFor
+          → Ends (resultBy q (gathered g n p c d)) out (Present (sizeFor (gathered g n p c d)) (length (gathered g n p c d)) (q .control)) out′
+      unfolding withRoom resultBy written bytesFor
       fill-done k m out′ o =
           let e = le-leb (sizeFor (gathered g n p c d)) (length out) k in
           let f = le-leb (sizeFor (gathered g n p c d)) 65532 m in
-          record { answer = rw (h, e, f); bytes = rw (h, e, f) o }
+          record { answer = record { values = rw (h, e, f); refuses = rw (h, e, f) }; buffer = rw (h, e, f) o }
 
       -- the same, of the measure that the code has
       pub fill-measured : (m : Measure) → m ≡ measureOf (gathered g n p c d) → 8 + m .bytes ≤ length out → 8 + m .bytes ≤ 65532
           → (out′ : List ℕ) → out′ ≡ front (render (revFor (gathered g n p c d)) (gathered g n p c d)) out
-          → Filled g q n p c d out (Present (8 + m .bytes) (m .count) (q .control)) out′
+          → Ends (resultBy q (gathered g n p c d)) out (Present (8 + m .bytes) (m .count) (q .control)) out′
       fill-measured m e k j out′ o =
           let b = ap (λ (z : Measure). z .bytes) e in
-          subst (λ (z : Measure). Filled g q n p c d out (Present (8 + z .bytes) (z .count) (q .control)) out′) (sym e)
+          subst (λ (z : Measure). Ends (resultBy q (gathered g n p c d)) out (Present (8 + z .bytes) (z .count) (q .control)) out′) (sym e)
           (fill-done (omega arith) (omega arith) out′ o)

@@ -9,8 +9,8 @@ use lib.Dec.{eqb, leb}
 use lib.Bits.{bitOr}
 use borrow.Author.Tests.{leb-true, eqb-true, not-true}
 use Rattle.list.proofs.Tests.{both-true}
-use Rattle.inherit.specs.Given.{has}
-use Rattle.inherit.specs.Copies.{kept}
+use Rattle.inherit.specs.Asked.{has}
+use Rattle.inherit.specs.Copies.{keptFlags}
 use Rattle.inherit.specs.Emit.{flagsBy}
 use Rattle.inherit.specs.declared.copies.Pass.{Pass}
 use Rattle.inherit.specs.declared.copies.Pass.the-variants.{First, Second, Own, All}
@@ -48,12 +48,12 @@ only-not x h e =
 
 -- the first part's flags are ID alone
 pub first-has : (x : ℕ) → has 0x10 (flagsBy First x) ≡ true
-unfolding flagsBy kept
+unfolding flagsBy keptFlags
 first-has x = refl
 
 -- every pass gives known flags
 pub by-le : (p : Pass) (x : ℕ) → x ≤ 31 → flagsBy p x ≤ 31
-unfolding flagsBy kept
+unfolding flagsBy keptFlags
 by-le First x h = omega arith
 by-le Second x h = inherited-le x h
 by-le Own x h = h

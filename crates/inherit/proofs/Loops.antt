@@ -15,7 +15,7 @@ use Rattle.list.proofs.Rows.{passes-turn}
 use Rattle.list.proofs.Writes.{Stands, grown, stands-none, stands-length}
 use Rattle.inherit.specs.declared.copies.Pass.{Pass}
 use Rattle.inherit.specs.declared.passes.Measure.{Measure}
-use Rattle.inherit.specs.Given.{Given}
+use Rattle.inherit.specs.Asked.{Given}
 use Rattle.inherit.specs.Compute.{anyObject}
 use Rattle.inherit.specs.Emit.{emitOf, emitAll, emitted, measureOf, both}
 use Rattle.inherit.proofs.Emits.{emit-turn, emit-none, emit-le, flatten-append, measure-append}

@@ -11,7 +11,7 @@ use Rattle.list.specs.declared.entries.Entry.{Entry}
 use Rattle.list.proofs.Remade.{bounds, kind-entry}
 use Rattle.inherit.specs.declared.copies.Pass.{Pass}
 use Rattle.inherit.specs.declared.passes.Measure.{Measure}
-use Rattle.inherit.specs.Given.{Given}
+use Rattle.inherit.specs.Asked.{Given}
 use Rattle.inherit.specs.Last.{mapped}
 use Rattle.inherit.specs.Compute.{anyObject}
 use Rattle.inherit.specs.Emit.{takesBy, flagsBy, Lies, putIn, copyOf, emitOf, measureOf}

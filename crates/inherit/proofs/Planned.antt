@@ -2,6 +2,7 @@
 use mathlib.Core.Path.{_≡_, refl, sym, ap, ap₂, _∙_}
 use mathlib.Core.Bool.{Bool, true, false, not, cond, _&&_}
 use mathlib.Core.List.{List, [], _∷_, _++_, append-assoc, append-nil}
+use mathlib.Core.Option.{none, some}
 use Prim.Native.Nat.{ℕ, _≤_, _<_}
 use native.Mathlib.Omega.{arith}
 use lib.ListN.{length, set}
@@ -13,13 +14,15 @@ use Rattle.list.specs.Good.{Whole, Every}
 use Rattle.list.proofs.Remade.{set-flags}
 use Rattle.list.proofs.Revisions.{flags-le, every-to}
 use Rattle.inherit.specs.declared.Settings.{Settings}
+use Rattle.inherit.specs.declared.Mapping.{Mapping}
 use Rattle.inherit.specs.declared.branch.Plan.{Plan}
 use Rattle.inherit.specs.declared.copies.Pass.{Pass}
 use Rattle.inherit.specs.declared.copies.Pass.the-variants.{First, Second, Own, All}
-use Rattle.inherit.specs.Given.{Given, absent, present, lent, entriesIf, has}
-use Rattle.inherit.specs.Copies.{anyHeritable, pass, kept, takesFirst, takesSecond, firstPart, secondPart, fromParent, own, fromCreator}
+use Rattle.inherit.specs.Asked.{Asked, Given, MaybeList, givenIn, given, lent, entriesIf, has}
+use Rattle.inherit.specs.Copies.{anyHeritable, pass, keptFlags, takesFirst, takesSecond, firstPart, secondPart, fromParent, ownEntries, fromCreator}
 use Rattle.inherit.specs.Last.{resolved, passesFilter, lastOf, lastStep}
-use Rattle.inherit.specs.Branch.{Result, none, some, inheritedBit, withCreator, fromDefault, branch, resultOf}
+use Rattle.inherit.specs.Branch.{Result, holds, inheritedBit, withCreator, fromDefault, branch, resultOf}
+use Rattle.inherit.specs.Compute.{askedBy}
 use Rattle.inherit.specs.Emit.{takesBy, flagsBy, emitOf, emitAll}
 use Rattle.inherit.specs.Plan.{parentOnly, mergedOf, ownOnly, defaultOnly, planOf, planned, resultBy}
 use Rattle.inherit.proofs.Flags.{has-inherited, first-has, only-not}
@@ -92,41 +95,41 @@ module _ (g : Given) (es : List (List ℕ)) (a : Every Known es) where
       last-append g o (firstPart access g 0x10 es) (secondPart g 0x04 0x18 es)
       ∙ ap₂ (λ (x y : List (List ℕ)). x ++ y) (first-is o) (second-is o)
 
-  own-is : lastStep g false (own es) ≡ emitAll g Own es
-  unfolding own takesBy flagsBy
+  own-is : lastStep g false (ownEntries es) ≡ emitAll g Own es
+  unfolding ownEntries takesBy flagsBy
   own-is = part-kept g false Known Own (λ e k. refl) es a
 
 -- an own entry has no ID
 record Mine (e : List ℕ) : Type 0 where
   known : Known e
-  none : has 0x10 (flagsOf e) ≡ false
+  fresh : has 0x10 (flagsOf e) ≡ false
 
-mine : (es : List (List ℕ)) → Every Known es → Every Mine (own es)
-unfolding own pass
+mine : (es : List (List ℕ)) → Every Known es → Every Mine (ownEntries es)
+unfolding ownEntries pass
 mine [] a = tt
 mine (e ∷ es) a = rw (set-getD e 1 0) (by (has 0x10 (flagsOf e)) refl (mine es (a .1)))
   where
-    by : (b : Bool) → has 0x10 (flagsOf e) ≡ b → Every Mine (own es) → Every Mine (cond (not b) (e ∷ own es) (own es))
+    by : (b : Bool) → has 0x10 (flagsOf e) ≡ b → Every Mine (ownEntries es) → Every Mine (cond (not b) (e ∷ ownEntries es) (ownEntries es))
     by true q m = m
-    by false q m = (record { known = a .0; none = q }, m)
+    by false q m = (record { known = a .0; fresh = q }, m)
 
 -- nor has a copy of one, so that the filter drops them
 module _ (g : Given) (es : List (List ℕ)) (a : Every Mine es) where
   first-none : lastStep g true (firstPart access g 0x00 es) ≡ []
-  unfolding firstPart kept
+  unfolding firstPart keptFlags
   first-none = part-dropped g true Mine (takesFirst g) _ (λ e m. rw (set-flags e 0 (m .known .two))) es a
 
   second-none : lastStep g true (secondPart g 0x00 0x08 es) ≡ []
   unfolding secondPart
   second-none =
       part-dropped g true Mine (takesSecond g 0x00) _
-      (λ e m. rw (set-flags e (bitOr (flagsOf e) 0x08) (m .known .two)) (only-not (flagsOf e) (m .known .flags) (m .none))) es a
+      (λ e m. rw (set-flags e (bitOr (flagsOf e) 0x08) (m .known .two)) (only-not (flagsOf e) (m .known .flags) (m .fresh))) es a
 
 creator-none : (g : Given) (es : List (List ℕ)) → Every Known es → lastStep g true (fromCreator access g es) ≡ []
 unfolding fromCreator
 creator-none g es a =
-    last-append g true (firstPart access g 0x00 (own es)) (secondPart g 0x00 0x08 (own es))
-    ∙ ap₂ (λ (x y : List (List ℕ)). x ++ y) (first-none g (own es) (mine es a)) (second-none g (own es) (mine es a))
+    last-append g true (firstPart access g 0x00 (ownEntries es)) (secondPart g 0x00 0x08 (ownEntries es))
+    ∙ ap₂ (λ (x y : List (List ℕ)). x ++ y) (first-none g (ownEntries es) (mine es a)) (second-none g (ownEntries es) (mine es a))
 
 -- what a plan gives of the parent's, the creator's and the default list's entries
 abbrev byPlan : Given → List (List ℕ) → List (List ℕ) → List (List ℕ) → Plan → Result
@@ -137,12 +140,12 @@ abbrev merging : Bool → Bool → Plan
 merging own parent = record { own = own; parent = parent; default = false; absent = false; control = cond parent (inheritedBit access) 0 }
 
 -- the branches, one by one
-module _ (s : Settings) (g : Given) (ps cs ds : List (List ℕ)) (kp : Every Known ps) (kc : Every Known cs) where
-  parent-only : some (lastStep g true (fromParent access g ps)) 0 ≡ byPlan g ps cs ds parentOnly
+module _ (g : Given) (ps cs ds : List (List ℕ)) (kp : Every Known ps) (kc : Every Known cs) where
+  parent-only : holds (lastStep g true (fromParent access g ps)) 0 ≡ byPlan g ps cs ds parentOnly
   unfolding planned resultBy emitAll
-  parent-only = rw append-nil (ap (λ (es : List (List ℕ)). some es 0) (parent-is g ps kp true))
+  parent-only = rw append-nil (ap (λ (es : List (List ℕ)). holds es 0) (parent-is g ps kp true))
 
-  own-only : some (lastStep g false (own cs)) 0 ≡ byPlan g ps cs ds ownOnly
+  own-only : holds (lastStep g false (ownEntries cs)) 0 ≡ byPlan g ps cs ds ownOnly
   unfolding planned resultBy emitAll
   own-only = rw (own-is g cs kc, append-nil (emitAll g Own cs))
 
@@ -153,58 +156,67 @@ module _ (s : Settings) (g : Given) (ps cs ds : List (List ℕ)) (kp : Every Kno
   part-is o false = refl
 
   dropping-is : (t : Bool)
-      → some (lastStep g true (fromCreator access g cs ++ cond t (fromParent access g ps) [])) (cond t (inheritedBit access) 0)
+      → holds (lastStep g true (fromCreator access g cs ++ cond t (fromParent access g ps) [])) (cond t (inheritedBit access) 0)
       ≡ byPlan g ps cs ds (merging false t)
   unfolding planned resultBy emitAll
   dropping-is t = rw (last-append, creator-none g cs kc, part-is true t)
 
   keeping-is : (t : Bool)
-      → some (lastStep g false (own cs ++ cond t (fromParent access g ps) [])) (cond t (inheritedBit access) 0)
+      → holds (lastStep g false (ownEntries cs ++ cond t (fromParent access g ps) [])) (cond t (inheritedBit access) 0)
       ≡ byPlan g ps cs ds (merging true t)
   unfolding planned resultBy emitAll
   keeping-is t = rw (last-append, own-is g cs kc, part-is false t)
 
-  with-is : withCreator access s g ps cs
-      ≡ byPlan g ps cs ds (cond (not (s .defaulted)) (mergedOf (not (eqb (g .rule) 1)) (s .auto) (s .protect)) parentOnly)
+  with-is : (a : Asked) → g ≡ givenIn a → withCreator access a ps cs
+      ≡ byPlan g ps cs ds (cond (not (a .default-descriptor)) (mergedOf (not (eqb (a .rule) 1)) (a .auto-inherit) (a .protected)) parentOnly)
   unfolding withCreator
-  with-is = by (s .defaulted) (eqb (g .rule) 1) (s .auto && not (s .protect))
+  with-is a e = rw (← e) (by (a .default-descriptor) (eqb (a .rule) 1) (a .auto-inherit && not (a .protected)))
     where
-      by : (d r t : Bool) → cond d (some (lastStep g true (fromParent access g ps)) 0)
+      by : (d r t : Bool) → cond d (holds (lastStep g true (fromParent access g ps)) 0)
           (cond r
-          (some (lastStep g true (fromCreator access g cs ++ cond t (fromParent access g ps) [])) (cond t (inheritedBit access) 0))
-          (some (lastStep g false (own cs ++ cond t (fromParent access g ps) [])) (cond t (inheritedBit access) 0)))
+          (holds (lastStep g true (fromCreator access g cs ++ cond t (fromParent access g ps) [])) (cond t (inheritedBit access) 0))
+          (holds (lastStep g false (ownEntries cs ++ cond t (fromParent access g ps) [])) (cond t (inheritedBit access) 0)))
           ≡ byPlan g ps cs ds (cond (not d) (merging (not r) t) parentOnly)
       by true r t = parent-only
       by false true t = dropping-is t
       by false false t = keeping-is t
 
 -- the plan, with the lists lent or not
-abbrev planWith : Settings → Given → Bool → Bool → Bool → Plan
-planWith s g heritable creator default =
+abbrev planWith : Asked → Bool → Bool → Bool → Plan
+planWith a heritable creator default =
     cond heritable
-    (cond (creator && not (s .defaulted)) (mergedOf (not (eqb (g .rule) 1)) (s .auto) (s .protect)) parentOnly)
+    (cond (creator && not (a .default-descriptor)) (mergedOf (not (eqb (a .rule) 1)) (a .auto-inherit) (a .protected)) parentOnly)
     (cond creator ownOnly (defaultOnly default))
 
-branch-is : (s : Settings) (g : Given) (ps : List (List ℕ)) (C D : List ℕ) (h creator default : Bool)
-    → Every Known ps → Every Known (entriesIf (lent creator C))
-    → branch access s g h ps (lent creator C) (lent default D)
-    ≡ byPlan g ps (entriesIf (lent creator C)) (entriesIf (lent default D)) (planWith s g h creator default)
+branch-is : (a : Asked) (ps : List (List ℕ)) (h : Bool) (c d : MaybeList) → a .default ≡ d → Every Known ps → Every Known (entriesIf c)
+    → branch access a h ps c ≡ byPlan (givenIn a) ps (entriesIf c) (entriesIf d) (planWith a h (given c) (given d))
 unfolding branch fromDefault planned resultBy emitAll
-branch-is s g ps C D true true d kp kc = with-is s g ps (entriesIf (present C)) (entriesIf (lent d D)) kp kc
-branch-is s g ps C D true false d kp kc = parent-only s g ps (entriesIf absent) (entriesIf (lent d D)) kp kc
-branch-is s g ps C D false true d kp kc = own-only s g ps (entriesIf (present C)) (entriesIf (lent d D)) kp kc
-branch-is s g ps C D false false true kp kc = ap (λ (es : List (List ℕ)). some es 0) (all-is g (entriesIf (present D)))
-branch-is s g ps C D false false false kp kc = refl
+branch-is a ps true (some c) d e kp kc = with-is (givenIn a) ps (entriesIf (some c)) (entriesIf d) kp kc a refl
+branch-is a ps true none d e kp kc = parent-only (givenIn a) ps (entriesIf none) (entriesIf d) kp kc
+branch-is a ps false (some c) d e kp kc = own-only (givenIn a) ps (entriesIf (some c)) (entriesIf d) kp kc
+branch-is a ps false none (some d) e kp kc =
+    ap (fromDefault (givenIn a)) e ∙ ap (λ (es : List (List ℕ)). holds es 0) (all-is (givenIn a) (entriesIf (some d)))
+branch-is a ps false none none e kp kc = ap (fromDefault (givenIn a)) e
 
--- the plan's passes give the table's result
-pub plan-is : (s : Settings) (g : Given) (P C D : List ℕ) (rp rc : ℕ)
-    → Every (Whole access rp) (entriesIf (lent (s .parent) P)) → Every (Whole access rc) (entriesIf (lent (s .creator) C))
-    → resultOf access s g (lent (s .parent) P) (lent (s .creator) C) (lent (s .default) D)
-    ≡ resultBy (planOf (g .rule) s (anyHeritable (entriesIf (lent (s .parent) P))))
-    (planned g (planOf (g .rule) s (anyHeritable (entriesIf (lent (s .parent) P))))
-    (entriesIf (lent (s .parent) P)) (entriesIf (lent (s .creator) C)) (entriesIf (lent (s .default) D)))
-unfolding resultOf planOf
-plan-is s g P C D rp rc wp wc =
-    let ps = entriesIf (lent (s .parent) P) in
-    let cs = entriesIf (lent (s .creator) C) in
-    branch-is s g ps C D (anyHeritable ps) (s .creator) (s .default) (every-to _ Known (known rp) ps wp) (every-to _ Known (known rc) cs wc)
+-- the plan for what is asked; its passes give the table's result
+abbrev pub planFor : Asked → Plan
+planFor a = planWith a (anyHeritable (entriesIf (a .parent))) (given (a .creator)) (given (a .default))
+
+pub plan-is : (a : Asked) (rp rc : ℕ) → Every (Whole access rp) (entriesIf (a .parent)) → Every (Whole access rc) (entriesIf (a .creator))
+    → resultOf access a
+    ≡ resultBy (planFor a) (planned (givenIn a) (planFor a) (entriesIf (a .parent)) (entriesIf (a .creator)) (entriesIf (a .default)))
+unfolding resultOf
+plan-is a rp rc wp wc =
+    let ps = entriesIf (a .parent) in
+    let cs = entriesIf (a .creator) in
+    branch-is a ps (anyHeritable ps) (a .creator) (a .default) refl (every-to _ Known (known rp) ps wp) (every-to _ Known (known rc) cs wc)
+
+-- the plan that the code makes
+pub given-lent : (b : Bool) (s : List ℕ) → given (lent b s) ≡ b
+given-lent true s = refl
+given-lent false s = refl
+
+pub plan-made : (rule : ℕ) (s : Settings) (m : Mapping) (P C D types owner group : List ℕ)
+    → planOf rule s (anyHeritable (entriesIf (lent (s .parent) P))) ≡ planFor (askedBy rule s m P C D types owner group)
+unfolding planOf
+plan-made rule s m P C D types owner group = rw (given-lent (s .creator) C, given-lent (s .default) D)

@@ -16,7 +16,7 @@ use Rattle.list.proofs.Revisions.{flags-le, flags-ok, whole-four, whole-plain, 
 use Rattle.inherit.specs.declared.branch.Plan.{Plan}
 use Rattle.inherit.specs.declared.copies.Pass.{Pass}
 use Rattle.inherit.specs.declared.copies.Pass.the-variants.{First, Second, Own, All}
-use Rattle.inherit.specs.Given.{Given}
+use Rattle.inherit.specs.Asked.{Given}
 use Rattle.inherit.specs.Last.{inPlace, mapped}
 use Rattle.inherit.specs.Compute.{anyObject, revFor}
 use Rattle.inherit.specs.Emit.{takesBy, flagsBy, copyOf, emitOf, emitAll}

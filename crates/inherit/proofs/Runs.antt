@@ -21,14 +21,15 @@ use Rattle.inherit.specs.declared.branch.Plan.{Plan}
 use Rattle.inherit.specs.declared.tests.Source.{Source}
 use Rattle.inherit.specs.declared.whole.Part.{Part}
 use Rattle.inherit.specs.declared.whole.Parts.{Parts}
-use Rattle.inherit.specs.Given.{Given, lent, entriesIf, typesOk, typesOf, fourOf}
+use Rattle.inherit.specs.Branch.{resultOf}
+use Rattle.inherit.specs.Asked.{Asked, Given, givenIn, entriesIf, typesOk, typesOf, fourOf}
 use Rattle.inherit.specs.Copies.{anyHeritable}
-use Rattle.inherit.specs.Compute.{ordinary, givenFor, resultFor}
+use Rattle.inherit.specs.Compute.{ordinary, askedBy}
 use Rattle.inherit.specs.Emit.{givenBy}
 use Rattle.inherit.specs.Plan.{planOf, planned, gathered, resultBy, Good, Ready}
 use Rattle.inherit.specs.Source.{Tested}
 use Rattle.inherit.proofs.Sources.{Sourced, sourced, cond-cut}
-use Rattle.inherit.proofs.Planned.{plan-is}
+use Rattle.inherit.proofs.Planned.{planFor, plan-is, plan-made}
 
 -- a list's entries, or none of them
 abbrev pub partOf : Bool → Source → Part
@@ -79,8 +80,11 @@ module _ (rule : ℕ) (s : Settings) (mapping : Mapping) (p c d : Source) (P C D
         default = good-part (q .default) d D (fd .passes) (t .default-found .few);
       }
 
+  abbrev asked : Asked
+  asked = askedBy rule s mapping P C D types owner group
+
   -- the code's counts give the plan's entries
-  gathers : (g : Given) (q : Plan) → planned g q (entriesIf (lent (s .parent) P)) (entriesIf (lent (s .creator) C)) (entriesIf (lent (s .default) D))
+  gathers : (g : Given) (q : Plan) → planned g q (entriesIf (asked .parent)) (entriesIf (asked .creator)) (entriesIf (asked .default))
       ≡ gathered g (partsOf q p c d) P C D
   unfolding planned
   gathers g q =
@@ -90,19 +94,19 @@ module _ (rule : ℕ) (s : Settings) (mapping : Mapping) (p c d : Source) (P C D
       rw (fp .entries, fc .entries, fd .entries, eo, ep, ed)
 
   pub run-is : (h : Bool) → h ≡ anyHeritable (cut (p .count) (drop 8 P)) → (q : Plan) → q ≡ planOf rule s h
-      → resultBy q (gathered (givenFor rule s mapping types owner group) (partsOf q p c d) P C D) ≡ resultFor rule s mapping P C D types owner group
+      → resultBy q (gathered (givenIn asked) (partsOf q p c d) P C D) ≡ resultOf access asked
   run-is h eh q eq =
-      let g = givenFor rule s mapping types owner group in
-      let e : q ≡ planOf rule s (anyHeritable (entriesIf (lent (s .parent) P))) =
-      eq ∙ ap (planOf rule s) (eh ∙ ap anyHeritable (sym (fp .entries))) in
+      let g = givenIn asked in
+      let e : q ≡ planFor asked =
+      eq ∙ ap (planOf rule s) (eh ∙ ap anyHeritable (sym (fp .entries))) ∙ plan-made rule s mapping P C D types owner group in
       ap (resultBy q) (sym (gathers g q))
-      ∙ ap (λ (x : Plan). resultBy x (planned g x (entriesIf (lent (s .parent) P)) (entriesIf (lent (s .creator) C)) (entriesIf (lent (s .default) D)))) e
-      ∙ sym (plan-is s g P C D (p .rev) (c .rev) (fp .wholes) (fc .wholes))
+      ∙ ap (λ (x : Plan). resultBy x (planned g x (entriesIf (asked .parent)) (entriesIf (asked .creator)) (entriesIf (asked .default)))) e
+      ∙ sym (plan-is asked (p .rev) (c .rev) (fp .wholes) (fc .wholes))
 
 -- the code's terms are what the definitions are given
-pub given-is : (rule : ℕ) (s : Settings) (mapping : Mapping) (types : List ℕ) (four : List (List ℕ)) (owner group o r : List ℕ)
+pub given-is : (rule : ℕ) (s : Settings) (mapping : Mapping) (P C D types : List ℕ) (four : List (List ℕ)) (owner group o r : List ℕ)
     → four ≡ fourOf types → o ≡ owner → r ≡ group
     → givenBy (record { rule = rule; container = s .container; mapping = mapping; count = length types / 16 }) four o r
-    ≡ givenFor rule s mapping types owner group
+    ≡ givenIn (askedBy rule s mapping P C D types owner group)
 unfolding typesOf
-given-is rule s mapping types four owner group o r ef eo er = rw (ef, eo, er)
+given-is rule s mapping P C D types four owner group o r ef eo er = rw (ef, eo, er)

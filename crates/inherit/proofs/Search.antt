@@ -12,7 +12,7 @@ use Rattle.list.specs.List.{cut}
 use Rattle.list.specs.Good.{Sound, Passes}
 use Rattle.list.proofs.Remade.{cut-same}
 use Rattle.list.proofs.Rows.{passes-turn}
-use Rattle.inherit.specs.Given.{has}
+use Rattle.inherit.specs.Asked.{has}
 use Rattle.inherit.specs.Copies.{heritable, anyHeritable}
 
 -- one entry, and those after it

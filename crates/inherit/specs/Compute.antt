@@ -1,22 +1,25 @@
 -- What the computation answers for any arguments, and what the result's buffer holds afterwards.
 use Prim.Native.Nat.{ℕ, _+_}
+use mathlib.Core.Path.{_≡_}
 use mathlib.Core.List.{List, [], _∷_, flatten}
-use mathlib.Core.Bool.{Bool, true, false, cond, _&&_, _||_}
+use mathlib.Core.Bool.{Bool, true, false, not, cond, _&&_, _||_}
+use mathlib.Core.Option.{none, some}
 use lib.ListN.{length}
 use lib.Dec.{eqb, leb}
 use Rattle.list.specs.Bytes.{front}
+use Rattle.list.specs.Order.{need}
 use Rattle.list.specs.Identity.{identityOf}
 use Rattle.list.specs.Entry.{access, objectKind, kindOf}
 use Rattle.list.specs.List.{render, checkOf}
 use Rattle.list.specs.Answer.{Values, done, refused}
 use Rattle.list.specs.declared.lists.Reading.{Reading}
-use Rattle.list.specs.declared.lists.Reading.the-variants.{Done, Refused as Unread}
+use Rattle.list.specs.declared.lists.Reading.the-variants.{Done as Read, Refused as Unread}
 use Rattle.inherit.specs.declared.Settings.{Settings}
 use Rattle.inherit.specs.declared.Mapping.{Mapping}
 use Rattle.inherit.specs.declared.Computed.{Computed}
 use Rattle.inherit.specs.declared.Computed.the-variants.{Present, Absent, Refused}
-use Rattle.inherit.specs.Given.{Given, Optional, absent, present, lent, typesOk, typesOf}
-use Rattle.inherit.specs.Branch.{Result, none, some, resultOf}
+use Rattle.inherit.specs.Asked.{Asked, MaybeList, lent, typesOk}
+use Rattle.inherit.specs.Branch.{Result, absent, holds, resultOf}
 
 -- an object entry is among them
 unfoldable pub anyObject : List (List ℕ) → Bool
@@ -36,23 +39,18 @@ abbrev pub fits : ℕ → List (List ℕ) → Bool
 fits room es = leb (sizeFor es) room && leb (sizeFor es) 65532
 
 -- an absent result needs no room
-unfoldable pub withRoom : ℕ → Result → Computed
-withRoom room none = Absent
-withRoom room (some es control) = cond (fits room es) (Present (sizeFor es) (length es) control) (Refused 8 0 0)
-
--- go on where the test holds, else refuse by the number; list and offset are 0
-unfoldable pub need : Bool → ℕ → Computed → Computed
-need true n rest = rest
-need false n rest = Refused n 0 0
+unfoldable pub withRoom : ℕ → Result → Values
+withRoom room absent = done 0 0 0 0
+withRoom room (holds es control) = cond (fits room es) (done (sizeFor es) 1 (length es) control) (refused 8 0 0)
 
 -- a list that is present reads as done, or its refusal concerns list `which`
-unfoldable pub onReading : Reading → ℕ → Computed → Computed
-onReading (Done len n) which rest = rest
-onReading (Unread k at) which rest = Refused k which at
+unfoldable pub onReading : Reading → ℕ → Values → Values
+onReading (Read len n) which rest = rest
+onReading (Unread k at) which rest = refused k which at
 
-unfoldable pub readable : Optional → ℕ → Computed → Computed
-readable absent which rest = rest
-readable (present s) which rest = onReading (checkOf access s) which rest
+unfoldable pub readable : MaybeList → ℕ → Values → Values
+readable none which rest = rest
+readable (some s) which rest = onReading (checkOf access s) which rest
 
 -- an owner or a group: exactly one SID, and no placeholder
 abbrev pub ordinary : List ℕ → Bool
@@ -61,51 +59,70 @@ ordinary s = eqb (identityOf s) 0
 unfoldable pub ruleOk : ℕ → Bool
 ruleOk rule = eqb rule 1 || eqb rule 2
 
--- the answer: rule, parent, creator, default, owner, group, types, room; g .types are those of the bytes `types`
-unfoldable pub computeOf : Settings → Given → List ℕ → Optional → Optional → Optional → ℕ → Computed
-computeOf s g types parent creator default room =
-    need (ruleOk (g .rule)) 12
-    (readable parent 1
-    (readable creator 2
-    (readable default 3
-    (need (ordinary (g .owner)) 6
-    (need (ordinary (g .group)) 6
-    (need (typesOk types) 7
-    (withRoom room (resultOf access s g parent creator default))))))))
+-- the answer: rule, parent, creator, default, owner, group, types, room
+unfoldable pub computeOf : Asked → ℕ → Values
+computeOf a room =
+    need (ruleOk (a .rule)) (refused 12 0 0)
+    (readable (a .parent) 1
+    (readable (a .creator) 2
+    (readable (a .default) 3
+    (need (ordinary (a .owner)) (refused 6 0 0)
+    (need (ordinary (a .group)) (refused 6 0 0)
+    (need (typesOk (a .types)) (refused 7 0 0)
+    (withRoom room (resultOf access a))))))))
 
 -- the bytes of a result
 unfoldable pub bytesFor : Result → List ℕ
-bytesFor none = []
-bytesFor (some es control) = render (revFor es) es
+bytesFor absent = []
+bytesFor (holds es control) = render (revFor es) es
 
--- the buffer afterwards: the list on its front, the rest as it was; as it was where nothing was computed
-unfoldable pub outBy : Computed → List ℕ → List ℕ → List ℕ
-outBy (Present len n control) bytes out = front bytes out
-outBy Absent bytes out = out
-outBy (Refused k which at) bytes out = out
+-- the buffer afterwards: a list that is present on its front, the rest as it was
+unfoldable pub written : Values → List ℕ → List ℕ → List ℕ
+written v bytes out = cond (eqb (v .present) 1) (front bytes out) out
 
--- document 01's number and values for each case
-abbrev pub valuesOf : Computed → Values
-valuesOf (Present len n control) = done len 1 n control
-valuesOf Absent = done 0 0 0 0
-valuesOf (Refused k which at) = refused k which at
+abbrev pub outOf : Asked → List ℕ → List ℕ
+outOf a out = written (computeOf a (length out)) (bytesFor (resultOf access a)) out
 
--- the public call's arguments, as the definitions have them
-abbrev pub givenFor : ℕ → Settings → Mapping → List ℕ → List ℕ → List ℕ → Given
-givenFor rule s mapping types owner group =
-    record { rule = rule; container = s .container; mapping = mapping; types = typesOf types; owner = owner; group = group }
+-- what the public call's arguments ask
+abbrev pub askedBy : ℕ → Settings → Mapping → List ℕ → List ℕ → List ℕ → List ℕ → List ℕ → List ℕ → Asked
+askedBy rule s mapping parent creator default types owner group =
+    record {
+      rule = rule;
+      parent = lent (s .parent) parent;
+      creator = lent (s .creator) creator;
+      default = lent (s .default) default;
+      container = s .container;
+      types = types;
+      owner = owner;
+      group = group;
+      mapping = mapping;
+      auto-inherit = s .auto;
+      default-descriptor = s .defaulted;
+      protected = s .protect;
+    }
 
--- the list that the settings and the lent lists ask for
-abbrev pub resultFor : ℕ → Settings → Mapping → List ℕ → List ℕ → List ℕ → List ℕ → List ℕ → List ℕ → Result
-resultFor rule s mapping parent creator default types owner group =
-    resultOf access s (givenFor rule s mapping types owner group) (lent (s .parent) parent) (lent (s .creator) creator) (lent (s .default) default)
+-- document 01's number and values for each case of the call's answer
+abbrev pub computedValues : Computed → Values
+computedValues (Present len n control) = done len 1 n control
+computedValues Absent = done 0 0 0 0
+computedValues (Refused k which at) = refused k which at
 
--- what the public call answers, and its buffer afterwards
-abbrev pub answerFor : ℕ → Settings → Mapping → List ℕ → List ℕ → List ℕ → List ℕ → List ℕ → List ℕ → ℕ → Computed
-answerFor rule s mapping parent creator default types owner group room =
-    computeOf s (givenFor rule s mapping types owner group) types (lent (s .parent) parent) (lent (s .creator) creator) (lent (s .default) default) room
+abbrev pub isRefusal : Computed → Bool
+isRefusal (Present len n control) = false
+isRefusal Absent = false
+isRefusal (Refused k which at) = true
 
-abbrev pub outFor : ℕ → Settings → Mapping → List ℕ → List ℕ → List ℕ → List ℕ → List ℕ → List ℕ → List ℕ → List ℕ
-outFor rule s mapping parent creator default types owner group out =
-    outBy (answerFor rule s mapping parent creator default types owner group (length out))
-    (bytesFor (resultFor rule s mapping parent creator default types owner group)) out
+-- r is the answer with the values v: a refusal where its number isn't 0
+pub record Tells (r : Computed) (v : Values) : Type 0 where
+  pub values : computedValues r ≡ v
+  pub refuses : isRefusal r ≡ not (eqb (v .number) 0)
+
+-- the promise: the answer of what is asked, and what the buffer holds afterwards
+pub record Answers (a : Asked) (out : List ℕ) (r : Computed) (after : List ℕ) : Type 0 where
+  pub answer : Tells r (computeOf a (length out))
+  pub buffer : after ≡ outOf a out
+
+-- the same of a result, for which there may be room
+pub record Ends (x : Result) (out : List ℕ) (r : Computed) (after : List ℕ) : Type 0 where
+  pub answer : Tells r (withRoom (length out) x)
+  pub buffer : after ≡ written (withRoom (length out) x) (bytesFor x) out

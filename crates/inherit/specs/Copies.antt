@@ -6,7 +6,7 @@ use lib.ListN.{set}
 use lib.Bits.{bitOr}
 use Rattle.list.specs.Bytes.{sameBytes, guidAt}
 use Rattle.list.specs.Entry.{Family, access, objectKind, kindOf, flagsOf, wordOf}
-use Rattle.inherit.specs.Given.{Given, has}
+use Rattle.inherit.specs.Asked.{Given, has}
 
 -- OI or CI is set
 abbrev pub heritable : List ℕ → Bool
@@ -31,15 +31,15 @@ pass takes flags [] = []
 pass takes flags (e ∷ es) = cond (takes e) (set e 1 (flags (flagsOf e)) ∷ pass takes flags es) (pass takes flags es)
 
 -- the flags that a copy keeps in the first part: none in an access list
-unfoldable pub kept : Family → ℕ → ℕ
-kept access flags = 0
+unfoldable pub keptFlags : Family → ℕ → ℕ
+keptFlags access flags = 0
 
 -- first part: each entry with CI (container) or OI (not a container) whose type applies
 unfoldable pub takesFirst : Given → List ℕ → Bool
 takesFirst g e = has (cond (g .container) 0x02 0x01) (flagsOf e) && typeApplies g e
 
 unfoldable pub firstPart : Family → Given → ℕ → List (List ℕ) → List (List ℕ)
-firstPart f g become es = pass (takesFirst g) (λ flags. bitOr (kept f flags) become) es
+firstPart f g become es = pass (takesFirst g) (λ flags. bitOr (keptFlags f flags) become) es
 
 -- second part, only for a container: each inheritable entry without the bit that stops it
 unfoldable pub takesSecond : Given → ℕ → List ℕ → Bool
@@ -56,9 +56,9 @@ fromParent f g es = firstPart f g 0x10 es ++ secondPart g 0x04 0x18 es
 abbrev pub takesOwn : List ℕ → Bool
 takesOwn e = not (has 0x10 (flagsOf e))
 
-unfoldable pub own : List (List ℕ) → List (List ℕ)
-own es = pass takesOwn (λ flags. flags) es
+unfoldable pub ownEntries : List (List ℕ) → List (List ℕ)
+ownEntries es = pass takesOwn (λ flags. flags) es
 
 -- from the creator: the same over the own entries, but flags 0, then IO only, and NP isn't looked at
 unfoldable pub fromCreator : Family → Given → List (List ℕ) → List (List ℕ)
-fromCreator f g es = firstPart f g 0x00 (own es) ++ secondPart g 0x00 0x08 (own es)
+fromCreator f g es = firstPart f g 0x00 (ownEntries es) ++ secondPart g 0x00 0x08 (ownEntries es)

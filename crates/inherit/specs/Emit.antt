@@ -14,8 +14,8 @@ use Rattle.inherit.specs.declared.copies.Pass.the-variants.{First, Secon
 use Rattle.inherit.specs.declared.copies.Terms.{Terms}
 use Rattle.inherit.specs.declared.Mapping.{Mapping}
 use Rattle.inherit.specs.declared.passes.Measure.{Measure}
-use Rattle.inherit.specs.Given.{Given}
-use Rattle.inherit.specs.Copies.{kept, takesFirst, takesSecond, takesOwn}
+use Rattle.inherit.specs.Asked.{Given}
+use Rattle.inherit.specs.Copies.{keptFlags, takesFirst, takesSecond, takesOwn}
 use Rattle.inherit.specs.Last.{inPlace, mapped, resolved}
 use Rattle.inherit.specs.Compute.{anyObject}
 
@@ -32,7 +32,7 @@ takesBy g Own e = takesOwn e
 takesBy g All e = true
 
 unfoldable pub flagsBy : Pass → ℕ → ℕ
-flagsBy First flags = bitOr (kept access flags) 0x10
+flagsBy First flags = bitOr (keptFlags access flags) 0x10
 flagsBy Second flags = bitOr flags 0x18
 flagsBy Own flags = flags
 flagsBy All flags = flags

@@ -7,7 +7,7 @@ use lib.Bits.{bitOr}
 use Rattle.list.specs.Identity.{placeholderOf}
 use Rattle.list.specs.Entry.{kindOf, flagsOf, maskOf, middleOf, sidOf, tailOf, entryBytes}
 use Rattle.inherit.specs.declared.Mapping.{Mapping}
-use Rattle.inherit.specs.Given.{Given, has}
+use Rattle.inherit.specs.Asked.{Given, has}
 
 -- what stands in a SID's place: for creator owner the owner's bytes, for creator group the group's, else its own
 unfoldable pub inPlace : ℕ → List ℕ → List ℕ → List ℕ → List ℕ

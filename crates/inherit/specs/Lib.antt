@@ -1,4 +1,4 @@
-pub mod Given
+pub mod Asked
 pub mod Copies
 pub mod Last
 pub mod Branch

@@ -13,10 +13,8 @@ use Rattle.inherit.specs.declared.branch.Plan.{Plan}
 use Rattle.inherit.specs.declared.whole.Part.{Part}
 use Rattle.inherit.specs.declared.whole.Parts.{Parts}
 use Rattle.inherit.specs.declared.copies.Pass.the-variants.{First, Second, Own, All}
-use Rattle.inherit.specs.Given.{Given}
-use Rattle.inherit.specs.Branch.{Result, none, some, inheritedBit}
-use Rattle.inherit.specs.declared.Computed.{Computed}
-use Rattle.inherit.specs.Compute.{withRoom, bytesFor, outBy}
+use Rattle.inherit.specs.Asked.{Given}
+use Rattle.inherit.specs.Branch.{Result, absent, holds, inheritedBit}
 use Rattle.inherit.specs.Emit.{emitAll, emitted}
 
 -- from the parent alone
@@ -49,7 +47,7 @@ planned g p parent creator default =
     ++ (emitAll g Second (cond (p .parent) parent []) ++ emitAll g All (cond (p .default) default [])))
 
 unfoldable pub resultBy : Plan → List (List ℕ) → Result
-resultBy p es = cond (p .absent) none (some es (p .control))
+resultBy p es = cond (p .absent) absent (holds es (p .control))
 
 -- the code's counts for that: none where a list gives nothing; g's entries gathered over the three lists' bytes
 abbrev pub gathered : Given → Parts → List ℕ → List ℕ → List ℕ → List (List ℕ)
@@ -70,8 +68,3 @@ pub record Ready (n : Parts) (p c d : List ℕ) : Type 0 where
 -- x after w was written from `at` on
 abbrev pub onward : ℕ → List ℕ → List ℕ → List ℕ
 onward at w x = take at x ++ front w (drop at x)
-
--- the answer, and the buffer afterwards, of what a plan gives
-pub record Filled (g : Given) (q : Plan) (n : Parts) (p c d out : List ℕ) (r : Computed) (out′ : List ℕ) : Type 0 where
-  pub answer : r ≡ withRoom (length out) (resultBy q (gathered g n p c d))
-  pub bytes : out′ ≡ outBy (withRoom (length out) (resultBy q (gathered g n p c d))) (bytesFor (resultBy q (gathered g n p c d))) out

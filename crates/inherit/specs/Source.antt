@@ -3,25 +3,26 @@ use mathlib.Core.Path.{_≡_}
 use mathlib.Core.Bool.{true}
 use Prim.Native.Nat.{ℕ, _≤_}
 use mathlib.Core.List.{List}
+use mathlib.Core.Option.{none, some}
 use Rattle.list.specs.Entry.{access}
 use Rattle.list.specs.List.{revOf, checkOf}
 use Rattle.list.specs.declared.lists.Reading.{Reading}
 use Rattle.list.specs.declared.lists.Reading.the-variants.{Done, Refused}
 use Rattle.inherit.specs.declared.Settings.{Settings}
 use Rattle.inherit.specs.declared.tests.Source.{Source}
-use Rattle.inherit.specs.Given.{Optional, absent, present, lent, typesOk}
+use Rattle.inherit.specs.Asked.{MaybeList, lent, typesOk}
 use Rattle.inherit.specs.Compute.{ordinary}
 
 unfoldable pub sourceBy : Reading → ℕ → Source
 sourceBy (Done len n) rev = record { number = 0; offset = 0; rev = rev; count = n }
 sourceBy (Refused k at) rev = record { number = k; offset = at; rev = 0; count = 0 }
 
-unfoldable pub sourceOf : Optional → Source
-sourceOf absent = record { number = 0; offset = 0; rev = 0; count = 0 }
-sourceOf (present s) = sourceBy (checkOf access s) (revOf s)
+unfoldable pub sourceOf : MaybeList → Source
+sourceOf none = record { number = 0; offset = 0; rev = 0; count = 0 }
+sourceOf (some s) = sourceBy (checkOf access s) (revOf s)
 
 -- a list that may be absent was found good: src says how its entries are read
-pub record Found (o : Optional) (src : Source) : Type 0 where
+pub record Found (o : MaybeList) (src : Source) : Type 0 where
   pub is : src ≡ sourceOf o
   pub good : src .number ≡ 0
   pub few : src .count ≤ 65535

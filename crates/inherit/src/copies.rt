@@ -6,7 +6,7 @@ ghost use Prim.Native.Nat.{ℕ, _≤_};
 ghost use lib.ListN.{take};
 ghost use Rattle.list.specs.Bytes.{guidAt};
 ghost use Rattle.list.specs.Entry.{objectKind, fieldsOf};
-ghost use Rattle.inherit.specs.Given.{has as Given·has};
+ghost use Rattle.inherit.specs.Asked.{has as Given·has};
 ghost use Rattle.inherit.specs.Copies.{among as Copies·among, takesFirst};
 ghost use Rattle.inherit.specs.Emit.{givenBy, takesBy, flagsBy};
 use crate::Mapping;

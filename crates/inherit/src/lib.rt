@@ -2,7 +2,9 @@
 ghost use mathlib.Core.Path.{_≡_};
 ghost use mathlib.Core.Bool.{cond};
 ghost use lib.ListN.{length};
-ghost use Rattle.inherit.specs.Compute.{withRoom, bytesFor, outBy, resultFor, answerFor, outFor};
+ghost use Rattle.list.specs.Entry.{access};
+ghost use Rattle.inherit.specs.Branch.{resultOf};
+ghost use Rattle.inherit.specs.Compute.{askedBy, Answers, Ends};
 ghost use Rattle.inherit.specs.Source.{Tested};
 use branch::any_heritable;
 use branch::plan_for;
@@ -92,8 +94,7 @@ fn run<'a>(
     out: &mut [u8],
 ) -> Computed
     requires { ⌜ Tested settings p c d (now parent) (now creator) (now default) (now types) (now owner) (now group) ⌝ }
-    ensures answer { λ r. ⌜ r ≡ withRoom (length (now (out .entry))) (resultFor rule settings mapping (now (parent .entry)) (now (creator .entry)) (now (default .entry)) (now (types .entry)) (now (owner .entry)) (now (group .entry))) ⌝ }
-    ensures result { λ r. ⌜ now (out .exit) ≡ outBy r (bytesFor (resultFor rule settings mapping (now (parent .entry)) (now (creator .entry)) (now (default .entry)) (now (types .entry)) (now (owner .entry)) (now (group .entry)))) (now (out .entry)) ⌝ }
+    ensures { λ r. ⌜ Ends (resultOf access (askedBy rule settings mapping (now (parent .entry)) (now (creator .entry)) (now (default .entry)) (now (types .entry)) (now (owner .entry)) (now (group .entry)))) (now (out .entry)) r (now (out .exit)) ⌝ }
 {
     let terms = Terms {
         rule,
@@ -142,8 +143,7 @@ pub fn compute<'a>(
     group: &[u8],
     out: &mut [u8],
 ) -> Computed
-    ensures answer { λ r. ⌜ r ≡ answerFor rule settings mapping (now (parent .entry)) (now (creator .entry)) (now (default .entry)) (now (types .entry)) (now (owner .entry)) (now (group .entry)) (length (now (out .entry))) ⌝ }
-    ensures result { λ _. ⌜ now (out .exit) ≡ outFor rule settings mapping (now (parent .entry)) (now (creator .entry)) (now (default .entry)) (now (types .entry)) (now (owner .entry)) (now (group .entry)) (now (out .entry)) ⌝ }
+    ensures { λ r. ⌜ Answers (askedBy rule settings mapping (now (parent .entry)) (now (creator .entry)) (now (default .entry)) (now (types .entry)) (now (owner .entry)) (now (group .entry))) (now (out .entry)) r (now (out .exit)) ⌝ }
 {
     if !rule_ok(rule) {
         return Computed::Refused {

@@ -7,7 +7,8 @@ ghost use lib.ListN.{length};
 ghost use Rattle.list.specs.Bytes.{front};
 ghost use Rattle.list.specs.List.{headBytes};
 ghost use Rattle.inherit.specs.Emit.{givenBy, emitted, measureOf};
-ghost use Rattle.inherit.specs.Plan.{gathered, onward, Good, Ready, Filled};
+ghost use Rattle.inherit.specs.Plan.{gathered, onward, resultBy, Good, Ready};
+ghost use Rattle.inherit.specs.Compute.{Ends};
 use crate::Computed;
 use crate::branch::Plan;
 use crate::copies::Pass;
@@ -221,7 +222,7 @@ pub(crate) fn fill<'a>(
 ) -> Computed
     requires { ⌜ Ready parts (now parent) (now creator) (now default) ⌝ }
     requires { ⌜ (terms .count ≤ 4) × (length (now owner) ≤ 68) × (length (now group) ≤ 68) ⌝ }
-    ensures { λ r. ⌜ Filled (givenBy terms types (now (owner .entry)) (now (group .entry))) plan parts (now (parent .entry)) (now (creator .entry)) (now (default .entry)) (now (out .entry)) r (now (out .exit)) ⌝ }
+    ensures { λ r. ⌜ Ends (resultBy plan (gathered (givenBy terms types (now (owner .entry)) (now (group .entry))) parts (now (parent .entry)) (now (creator .entry)) (now (default .entry)))) (now (out .entry)) r (now (out .exit)) ⌝ }
 {
     if plan.absent {
         return Computed::Absent;

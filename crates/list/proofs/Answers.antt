@@ -7,9 +7,10 @@ use Prim.Native.Nat.{ℕ, zero, suc, _+_, _≤_}
 use native.Mathlib.Omega.{arith}
 use lib.ListN.{length, drop}
 use lib.Dec.{eqb, leb}
-use Rattle.list.specs.Entry.{Family, need, entryOf, sizeOf}
+use Rattle.list.specs.Order.{need}
+use Rattle.list.specs.Entry.{Family, entryOf, sizeOf}
 use Rattle.list.specs.List.{headerOk, onGood, walkOf, finish, checkOf, withRow, readOf, revOf, countOf}
-use Rattle.list.specs.Answer.{Values, numberOf, valuesOf}
+use Rattle.list.specs.Answer.{Values, entryNumber, readingValues}
 use Rattle.list.specs.Good.{Sound}
 use Rattle.list.specs.declared.entries.Entry.{Entry}
 use Rattle.list.specs.declared.entries.Checked.{Checked}
@@ -19,7 +20,7 @@ use Rattle.list.specs.declared.lists.Reading.the-variants.{Done, Refused
 use Rattle.list.proofs.Cases.{sound, is-good}
 
 -- the values determine the answer
-pub values-same : (x y : Reading) → valuesOf x ≡ valuesOf y → x ≡ y
+pub values-same : (x y : Reading) → readingValues x ≡ readingValues y → x ≡ y
 values-same (Done l n) (Done k m) e =
     let a = ap (λ (v : Values). v .length) e in
     let b = ap (λ (v : Values). v .count) e in
@@ -36,7 +37,7 @@ pub data EntryNumber : Checked → Type 0 where
   good : {e : Entry} → EntryNumber (Good e)
   bad : {k : ℕ} → 2 ≤ k → k ≤ 5 → EntryNumber (Bad k)
 
-need-number : (b : Bool) (n : ℕ) (rest : Checked) → 2 ≤ n → n ≤ 5 → EntryNumber rest → EntryNumber (need b n rest)
+need-number : (b : Bool) (n : ℕ) (rest : Checked) → 2 ≤ n → n ≤ 5 → EntryNumber rest → EntryNumber (need b (Bad n) rest)
 unfolding need
 need-number true n rest l m h = h
 need-number false n rest l m h = bad l m
@@ -55,13 +56,13 @@ entry-number f rev t =
     (need-number _ 2 _ (omega arith) (omega arith) good))))))))
 
 -- so its number is 0 exactly where it is good
-pub good-number-zero : (f : Family) (rev : ℕ) (t : List ℕ) → Sound f rev t → numberOf (entryOf f rev t) ≡ 0
-good-number-zero f rev t s = ap numberOf (sym (is-good f rev t s))
+pub good-number-zero : (f : Family) (rev : ℕ) (t : List ℕ) → Sound f rev t → entryNumber (entryOf f rev t) ≡ 0
+good-number-zero f rev t s = ap entryNumber (sym (is-good f rev t s))
 
-pub number-zero-good : (f : Family) (rev : ℕ) (t : List ℕ) → numberOf (entryOf f rev t) ≡ 0 → Sound f rev t
+pub number-zero-good : (f : Family) (rev : ℕ) (t : List ℕ) → entryNumber (entryOf f rev t) ≡ 0 → Sound f rev t
 number-zero-good f rev t h = by (entryOf f rev t) refl (entry-number f rev t) h
   where
-    by : (o : Checked) → entryOf f rev t ≡ o → EntryNumber o → numberOf o ≡ 0 → Sound f rev t
+    by : (o : Checked) → entryOf f rev t ≡ o → EntryNumber o → entryNumber o ≡ 0 → Sound f rev t
     by (Good e) q n z = sound f rev t e q
     by (Bad k) q (bad l m) z = absurd (omega arith)
 

@@ -4,9 +4,10 @@ use mathlib.Core.List.{List, [], _∷_, map}
 use Prim.Native.Nat.{ℕ}
 use Rattle.list.specs.Bytes.{le}
 use Rattle.list.specs.Identity.{sidLen}
-use Rattle.list.specs.Entry.{plainOf, objectOf, objectKind, kindOk, flagsOk, headOf, wordAfter, tailOk, need, entryOf}
+use Rattle.list.specs.Order.{need}
+use Rattle.list.specs.Entry.{plainOf, objectOf, objectKind, kindOk, flagsOk, headOf, wordAfter, tailOk, entryOf}
 use Rattle.list.specs.List.{revOk, headerOk, onGood, walkOf, finish, checkOf, withRow, readOf}
-use Rattle.list.specs.Answer.{Values, done, refused, answerOf}
+use Rattle.list.specs.Answer.{Values, done, refused, readValues}
 
 -- a list, the row's length, and the answer
 pub record Example : Type 0 where
@@ -46,6 +47,6 @@ entry-open : Unit {0}
 unfolding entryOf need kindOk plainOf objectOf objectKind flagsOk headOf wordAfter tailOk sidLen le
 entry-open = tt
 
-pub examples : map (λ x. answerOf (x .list) (x .row)) table ≡ map (λ x. x .answer) table
+pub examples : map (λ x. readValues (x .list) (x .row)) table ≡ map (λ x. x .answer) table
 unfolding table eg readOf withRow checkOf headerOk revOk walkOf onGood finish entry-open
 examples = refl

@@ -9,7 +9,7 @@ use lib.ListN.{length, take, drop, getD, length-append, length-drop, take-append
 use lib.Seq.{drop-cons, drop-drop, drop-at, take-at, drop-length}
 use Rattle.list.specs.Bytes.{le, spell}
 use Rattle.list.specs.Entry.{Family, entryOf, sizeOf, kindOf, fieldsOf}
-use Rattle.list.specs.List.{cut, endOf, entriesOf, offsets, headBytes, render, revOk, revOf, countOf, checkOf}
+use Rattle.list.specs.List.{cut, entriesEnd, entriesOf, offsets, headBytes, render, revOk, revOf, countOf, checkOf}
 use Rattle.list.specs.Good.{Whole, Passes, Header, Listed, Every}
 use Rattle.list.specs.declared.entries.Checked.the-variants.{Good}
 use Rattle.list.specs.declared.lists.Reading.the-variants.{Done}
@@ -37,15 +37,15 @@ cut-built f rev (e ∷ es) v ws =
     rw (append-assoc, size-joined f rev e u (ws .0), drop-at e u (length e) refl, take-at e u (length e) refl, cut-built f rev es v (ws .1))
 
 pub end-built : (f : Family) (rev : ℕ) (es : List (List ℕ)) (at : ℕ) (v : List ℕ) → Every (Whole f rev) es
-    → endOf (length es) at (flatten es ++ v) ≡ at + length (flatten es)
-unfolding flatten endOf
+    → entriesEnd (length es) at (flatten es ++ v) ≡ at + length (flatten es)
+unfolding flatten entriesEnd
 end-built f rev [] at v ws = omega arith
 end-built f rev (e ∷ es) at v ws =
     let u = flatten es ++ v in
     let z = size-joined f rev e u (ws .0) in
-    ap (λ (t : List ℕ). endOf (suc (length es)) at t) (append-assoc e (flatten es) v)
-    ∙ ap (λ (n : ℕ). endOf (length es) (at + n) (drop n (e ++ u))) z
-    ∙ ap (endOf (length es) (at + length e)) (drop-at e u (length e) refl)
+    ap (λ (t : List ℕ). entriesEnd (suc (length es)) at t) (append-assoc e (flatten es) v)
+    ∙ ap (λ (n : ℕ). entriesEnd (length es) (at + n) (drop n (e ++ u))) z
+    ∙ ap (entriesEnd (length es) (at + length e)) (drop-at e u (length e) refl)
     ∙ end-built f rev es (at + length e) v (ws .1)
     ∙ omega (arith, length-append e (flatten es))
 
@@ -55,8 +55,8 @@ unfolding cut
 wholes-cut f rev zero t h = tt
 wholes-cut f rev (suc n) t h = (split f rev t (h .0), wholes-cut f rev n (drop (sizeOf t) t) (h .1))
 
-pub tiled : (n at : ℕ) (s : List ℕ) → flatten (cut n (drop at s)) ++ drop (endOf n at (drop at s)) s ≡ drop at s
-unfolding flatten cut endOf
+pub tiled : (n at : ℕ) (s : List ℕ) → flatten (cut n (drop at s)) ++ drop (entriesEnd n at (drop at s)) s ≡ drop at s
+unfolding flatten cut entriesEnd
 tiled zero at s = refl
 tiled (suc n) at s =
     let z = sizeOf (drop at s) in
@@ -74,8 +74,8 @@ length-offsets (suc n) at t = ap suc (length-offsets n _ _)
 
 -- at the k-th offset lie the k-th entry, those after it, and the rest
 at-offset : (n at : ℕ) (s : List ℕ) (k : ℕ) → k < n
-    → drop (getD (offsets n at (drop at s)) k 0) s ≡ flatten (drop k (cut n (drop at s))) ++ drop (endOf n at (drop at s)) s
-unfolding offsets cut endOf
+    → drop (getD (offsets n at (drop at s)) k 0) s ≡ flatten (drop k (cut n (drop at s))) ++ drop (entriesEnd n at (drop at s)) s
+unfolding offsets cut entriesEnd
 at-offset zero at s k p = absurd (not-suc-le-zero p)
 at-offset (suc n) at s zero p = sym (tiled (suc n) at s)
 at-offset (suc n) at s (suc k) p = rw (drop-drop (sizeOf (drop at s)) at s) (at-offset n (at + sizeOf (drop at s)) s k (le-of-suc-le-suc p))
@@ -88,14 +88,14 @@ every-at P (e ∷ es) (suc k) a p = every-at P es k (a .1) (le-of-suc-le-suc p)
 -- a list is its header, its entries and what follows them: nothing
 pub record Laid (f : Family) (s : List ℕ) (n : ℕ) : Type 0 where
   pub count : length (entriesOf s) ≡ n
-  pub bytes : s ≡ take 8 s ++ (flatten (entriesOf s) ++ drop (endOf n 8 (drop 8 s)) s)
+  pub bytes : s ≡ take 8 s ++ (flatten (entriesOf s) ++ drop (entriesEnd n 8 (drop 8 s)) s)
   pub wholes : Every (Whole f (revOf s)) (entriesOf s)
   pub fills : s ≡ take 8 s ++ flatten (entriesOf s)
 
 pub laid : (f : Family) (s : List ℕ) (n : ℕ) → Listed f s n → Laid f s n
 unfolding entriesOf
 laid f s n r =
-    let b : s ≡ take 8 s ++ (flatten (entriesOf s) ++ drop (endOf n 8 (drop 8 s)) s) = rw (← r .count, tiled n 8 s) (sym (take-append-drop 8 s)) in
+    let b : s ≡ take 8 s ++ (flatten (entriesOf s) ++ drop (entriesEnd n 8 (drop 8 s)) s) = rw (← r .count, tiled n 8 s) (sym (take-append-drop 8 s)) in
     record {
       count = rw (r .count) (length-cut (countOf s) (drop 8 s));
       bytes = b;
@@ -127,7 +127,7 @@ kth f s n k r p =
     let d = laid f s n r in
     let w = every-at (Whole f (revOf s)) es k (d .wholes) (omega (arith, d .count)) in
     let o = getD (offsets n 8 (drop 8 s)) k 0 in
-    let u = flatten (drop (suc k) es) ++ drop (endOf n 8 (drop 8 s)) s in
+    let u = flatten (drop (suc k) es) ++ drop (entriesEnd n 8 (drop 8 s)) s in
     let q : drop o s ≡ getD es k [] ++ u =
     at-offset n 8 s k p ∙ rw (r .count, drop-cons es k [] (omega (arith, d .count)), append-assoc) in
     record {

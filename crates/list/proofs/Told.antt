@@ -7,7 +7,7 @@ use lib.ListN.{length, drop}
 use lib.Dec.{eqb}
 use borrow.Author.Tests.{eqb-true, le-leb, lt-leb}
 use Rattle.list.specs.Entry.{Family}
-use Rattle.list.specs.List.{headerOk, walkOf, finish, checkOf, withRow, readOf, rowBy, offsets, endOf, revOf, countOf}
+use Rattle.list.specs.List.{headerOk, walkOf, finish, checkOf, withRow, readOf, rowBy, offsets, entriesEnd, revOf, countOf}
 use Rattle.list.specs.Good.{Listed}
 use Rattle.list.specs.declared.lists.Reading.{Reading}
 use Rattle.list.specs.declared.lists.Reading.the-variants.{Done, Refused}
@@ -58,7 +58,7 @@ unfolding checkOf finish
 told f s l n h =
     let p = done-cond (headerOk s) _ l n 1 0 h in
     let w = walked f (revOf s) (countOf s) 8 (drop 8 s) _ l n (p .1) in
-    let e = done-cond (eqb (endOf (countOf s) 8 (drop 8 s)) (length s)) _ l n 2 _ (w .1) in
+    let e = done-cond (eqb (entriesEnd (countOf s) 8 (drop 8 s)) (length s)) _ l n 2 _ (w .1) in
     let d = e .1 in
     let c : n ≡ countOf s = cc in
     record { listed = record { head = header s (p .0); count = c; passes = rw c (w .0); ends = rw c (eqb-true _ _ (e .0)) }; whole = cc }

@@ -10,7 +10,7 @@ use lib.ListN.{length, drop, getD}
 use lib.Dec.{eqb}
 use Rattle.list.specs.Bytes.{le}
 use Rattle.list.specs.Entry.{Family, entryOf, sizeOf}
-use Rattle.list.specs.List.{revOk, revOf, headerOk, onGood, walkOf, endOf}
+use Rattle.list.specs.List.{revOk, revOf, headerOk, onGood, walkOf, entriesEnd}
 use Rattle.list.specs.Good.{Sound, Passes, Header}
 use Rattle.list.specs.declared.entries.Entry.{Entry}
 use Rattle.list.specs.declared.entries.Checked.{Checked}
@@ -89,8 +89,8 @@ turn f rev n at t done l k h = by (entryOf f rev t) refl
 
 -- so it has passed n good entries, and what it says, it says of their end
 pub walked : (f : Family) (rev n at : ℕ) (t : List ℕ) (done : ℕ → Reading) (l k : ℕ) → walkOf f rev n at t done ≡ Done l k
-    → Passes f rev n t × (done (endOf n at t) ≡ Done l k)
-unfolding walkOf endOf
+    → Passes f rev n t × (done (entriesEnd n at t) ≡ Done l k)
+unfolding walkOf entriesEnd
 walked f rev zero at t done l k h = (tt, h)
 walked f rev (suc n) at t done l k h =
     let p = turn f rev n at t done l k h in
@@ -98,8 +98,8 @@ walked f rev (suc n) at t done l k h =
     ((p .0, r .0), r .1)
 
 -- and the other way
-pub walks : (f : Family) (rev n at : ℕ) (t : List ℕ) (done : ℕ → Reading) → Passes f rev n t → walkOf f rev n at t done ≡ done (endOf n at t)
-unfolding walkOf endOf
+pub walks : (f : Family) (rev n at : ℕ) (t : List ℕ) (done : ℕ → Reading) → Passes f rev n t → walkOf f rev n at t done ≡ done (entriesEnd n at t)
+unfolding walkOf entriesEnd
 walks f rev zero at t done p = refl
 walks f rev (suc n) at t done p =
     walk-good f rev (suc n) at t done (omega arith) _ (sym (is-good f rev t (p .0)))

@@ -29,15 +29,15 @@ refused number list offset =
     record { number = number; list = list; offset = offset; length = 0; present = 0; count = 0; control = 0 }
 
 -- the number of one entry's check: 0 where it is good
-abbrev pub numberOf : Checked → ℕ
-numberOf (Good e) = 0
-numberOf (Bad k) = k
+abbrev pub entryNumber : Checked → ℕ
+entryNumber (Good e) = 0
+entryNumber (Bad k) = k
 
 -- the reader's answer: a list that was read is present, with control 0; its refusals concern list 0
-abbrev pub valuesOf : Reading → Values
-valuesOf (Done len n) = done len 1 n 0
-valuesOf (Refused k at) = refused k 0 at
+abbrev pub readingValues : Reading → Values
+readingValues (Done len n) = done len 1 n 0
+readingValues (Refused k at) = refused k 0 at
 
 -- what the reader answers for the access list s and a row of m elements
-abbrev pub answerOf : List ℕ → ℕ → Values
-answerOf s m = valuesOf (readOf access s m)
+abbrev pub readValues : List ℕ → ℕ → Values
+readValues s m = readingValues (readOf access s m)

@@ -4,6 +4,7 @@ use mathlib.Core.List.{List, [], _∷_, _++_}
 use mathlib.Core.Bool.{Bool, true, false, cond, _&&_, _||_}
 use lib.ListN.{length, getD, take, drop}
 use lib.Dec.{eqb, leb, ltb}
+use Rattle.list.specs.Order.{need}
 use Rattle.list.specs.Bytes.{le, spell}
 use Rattle.list.specs.Identity.{sidLen}
 use Rattle.list.specs.declared.entries.Entry.{Entry}
@@ -104,21 +105,16 @@ fieldsOf t =
       «sid_len» = sidLenOf t;
     }
 
--- go on where the test holds, else refuse by the number
-unfoldable pub need : Bool → ℕ → Checked → Checked
-need true n rest = rest
-need false n rest = Bad n
-
 -- the check of one entry, (a) to (h)
 unfoldable pub entryOf : Family → ℕ → List ℕ → Checked
 entryOf f rev t =
-    need (leb 4 (length t)) 2  -- (a) four bytes are there
-    (need (leb (sizeOf t) (length t)) 2  -- and the size is at most what remains
-    (need (kindOk f (kindOf t) rev) 3  -- (b) type
-    (need (flagsOk f (flagsOf t)) 4  -- (c) flags
-    (need (leb (headOf (kindOf t)) (sizeOf t)) 2  -- (d) the size holds the mask and, for object types, the word
-    (need (leb (wordOf t) 3) 4  -- (e) word
-    (need (leb (sidAt t + 8) (sizeOf t)) 2  -- (f) GUIDs and eight SID bytes fit in the size
-    (need (ltb 0 (sidLenOf t)) 5  -- (g) SID
-    (need (tailOk (kindOf t) (sidEnd t) (sizeOf t)) 2  -- (h) exact size
+    need (leb 4 (length t)) (Bad 2)  -- (a) four bytes are there
+    (need (leb (sizeOf t) (length t)) (Bad 2)  -- and the size is at most what remains
+    (need (kindOk f (kindOf t) rev) (Bad 3)  -- (b) type
+    (need (flagsOk f (flagsOf t)) (Bad 4)  -- (c) flags
+    (need (leb (headOf (kindOf t)) (sizeOf t)) (Bad 2)  -- (d) the size holds the mask and, for object types, the word
+    (need (leb (wordOf t) 3) (Bad 4)  -- (e) word
+    (need (leb (sidAt t + 8) (sizeOf t)) (Bad 2)  -- (f) GUIDs and eight SID bytes fit in the size
+    (need (ltb 0 (sidLenOf t)) (Bad 5)  -- (g) SID
+    (need (tailOk (kindOf t) (sidEnd t) (sizeOf t)) (Bad 2)  -- (h) exact size
     (Good (fieldsOf t))))))))))

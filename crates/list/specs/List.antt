@@ -39,9 +39,9 @@ unfoldable pub entriesOf : List ℕ → List (List ℕ)
 entriesOf s = cut (countOf s) (drop 8 s)
 
 -- where n entries end, the first at `at`
-unfoldable pub endOf : ℕ → ℕ → List ℕ → ℕ
-endOf zero at t = at
-endOf (suc n) at t = endOf n (at + sizeOf t) (drop (sizeOf t) t)
+unfoldable pub entriesEnd : ℕ → ℕ → List ℕ → ℕ
+entriesEnd zero at t = at
+entriesEnd (suc n) at t = entriesEnd n (at + sizeOf t) (drop (sizeOf t) t)
 
 -- the offset of each of them
 unfoldable pub offsets : ℕ → ℕ → List ℕ → List ℕ

@@ -5,7 +5,7 @@ ghost use Prim.Native.Nat.{_+_, _≤_, _<_};
 ghost use lib.ListN.{length, drop};
 ghost use Rattle.list.specs.Entry.{access, entryOf};
 ghost use Rattle.list.specs.List.{revOk, headerOk, offsets, walkOf, finish, checkOf, readOf, rowBy};
-ghost use Rattle.list.specs.Answer.{valuesOf, answerOf};
+ghost use Rattle.list.specs.Answer.{readingValues, readValues};
 ghost use Rattle.list.specs.Good.{Listed};
 use crate::entries::Checked;
 use crate::entries::entry_of;
@@ -113,7 +113,7 @@ fn fill(list: &[u8], count: u16, row: &mut [u16])
 
 // Reads a list and puts the offset of each entry on the front of the row; a refusal leaves the row as it was.
 pub fn read(list: &[u8], row: &mut [u16]) -> Reading
-    ensures answer { λ r. ⌜ valuesOf r ≡ answerOf (now (list .entry)) (length (now (row .entry))) ⌝ }
+    ensures answer { λ r. ⌜ readingValues r ≡ readValues (now (list .entry)) (length (now (row .entry))) ⌝ }
     ensures index { λ _. ⌜ now (row .exit) ≡ rowBy (readOf access (now (list .entry)) (length (now (row .entry)))) (now (list .entry)) (now (row .entry)) ⌝ }
 {
     match check(list) {

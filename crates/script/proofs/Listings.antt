@@ -2,19 +2,21 @@
 use mathlib.Core.Path.{_≡_, refl, sym, ap, _∙_}
 use mathlib.Core.List.{List, [], _++_}
 use mathlib.Core.Bool.{Bool, true, false, cond}
+use mathlib.Core.Option.{none, some}
 use Prim.Native.Nat.{ℕ, _+_, _*_, _≤_, _<_}
 use native.Mathlib.Nat.{zero-add}
 use native.Mathlib.Numerals.{add-one}
 use native.Mathlib.Omega.{arith}
 use lib.ListN.{length, getD}
 use Rattle.list.proofs.Tests.{tests}
-use Rattle.inherit.specs.Given.{Optional, absent, present}
+use Rattle.inherit.specs.Asked.{MaybeList}
 use Rattle.tree.specs.declared.Answer.{Answer}
 use Rattle.tree.specs.declared.Answer.the-variants.{Done, Refused}
 use Rattle.tree.specs.Held.{hasList, bytesIn, held}
 use Rattle.tree.specs.Room.{objects, slot}
 use Rattle.tree.specs.Formed.{formed}
-use Rattle.tree.specs.Calls.{need, told, onObject, bytesIf, copied, listTo, countsTo}
+use Rattle.list.specs.Order.{need}
+use Rattle.tree.specs.Calls.{told, onObject, bytesIf, copied, listTo, countsTo}
 use Rattle.tree.specs.Replay.{shown}
 use Rattle.tree.proofs.Tested.{head-says, formed-parts, bytes-most}
 use Rattle.tree.proofs.Tab.{length-tab, getD-tab}
@@ -33,19 +35,19 @@ unfolding columnsBy
 columns-some n k e = rw e
 
 -- from the tree's answer
-pub columns-told : (o : Optional) {n k : ℕ} {is : Bool} → told o ≡ Done n is k → columnsBy n is k ≡ columns o
+pub columns-told : (o : MaybeList) {n k : ℕ} {is : Bool} → told o ≡ Done n is k → columnsBy n is k ≡ columns o
 unfolding told columns
-columns-told absent e = cc
-columns-told (present s) e = cc
+columns-told none e = cc
+columns-told (some s) e = cc
 
 -- a list's answer is no refusal
-pub told-done : (o : Optional) {k w at : ℕ} → told o ≡ Refused k w at → ⊥
+pub told-done : (o : MaybeList) {k w at : ℕ} → told o ≡ Refused k w at → ⊥
 unfolding told
-told-done absent e = let z : _≡_ {A = ℕ} 0 1 = cc in omega arith
-told-done (present s) e = let z : _≡_ {A = ℕ} 0 1 = cc in omega arith
+told-done none e = let z : _≡_ {A = ℕ} 0 1 = cc in omega arith
+told-done (some s) e = let z : _≡_ {A = ℕ} 0 1 = cc in omega arith
 
 -- a line by the tree's answer
-pub line-told : (i : ℕ) (o : Optional) {n k at r : ℕ} {is : Bool} {d out : List ℕ} → told o ≡ Done n is k
+pub line-told : (i : ℕ) (o : MaybeList) {n k at r : ℕ} {is : Bool} {d out : List ℕ} → told o ≡ Done n is k
     → Lays at (decimal i ++ (space ++ (columnsBy n is k ++ newline))) d r out → Lays at (line i o) d r out
 unfolding line
 line-told i o e l = rw (← columns-told o e) l
@@ -56,9 +58,9 @@ pub lists-length : (r : List ℕ) → length (shown r .lists) ≡ objects r
 unfolding shown
 lists-length r = length-tab (objects r) _
 
-pub lists-at : (r : List ℕ) (i : ℕ) → i < objects r → getD (shown r .lists) i absent ≡ held (slot i r)
+pub lists-at : (r : List ℕ) (i : ℕ) → i < objects r → getD (shown r .lists) i none ≡ held (slot i r)
 unfolding shown
-lists-at r i h = getD-tab (objects r) (λ j. held (slot j r)) i absent h
+lists-at r i h = getD-tab (objects r) (λ j. held (slot j r)) i none h
 
 pub objects-most : (r : List ℕ) → formed r ≡ true → objects r ≤ 64
 objects-most r h = let f = head-says r (formed-parts r h .head-ok) in omega arith
@@ -67,7 +69,7 @@ held-most : (s : List ℕ) → length (bytesIf (held s)) ≤ 1024
 unfolding bytesIf
 held-most s = by (hasList s)
   where
-    by : (b : Bool) → length (bytesIf (cond b (present (bytesIn s)) absent)) ≤ 1024
+    by : (b : Bool) → length (bytesIf (cond b (some (bytesIn s)) none)) ≤ 1024
     by true = bytes-most s
     by false = omega arith
 
@@ -80,25 +82,25 @@ list-told i r out f h e =
 
 -- ---- the lines one after another
 
-lines-more : (i : ℕ) (os : List Optional) → lines (i + 1) os ≡ lines i os ++ line i (getD os i absent)
+lines-more : (i : ℕ) (os : List MaybeList) → lines (i + 1) os ≡ lines i os ++ line i (getD os i none)
 unfolding lines
 lines-more i os = rw add-one
 
 -- the first i lines are laid in d from `from` on, and end at `at`
-pub record Lined (os : List Optional) (from : ℕ) (d : List ℕ) (i at : ℕ) (out : List ℕ) : Type 0 where
+pub record Lined (os : List MaybeList) (from : ℕ) (d : List ℕ) (i at : ℕ) (out : List ℕ) : Type 0 where
   pub laid : Lays from (lines i os) d at out
   pub most : at ≤ from + 63 * i
 
-pub lined-none : (os : List Optional) (from : ℕ) (d : List ℕ) → Lined os from d 0 from d
+pub lined-none : (os : List MaybeList) (from : ℕ) (d : List ℕ) → Lined os from d 0 from d
 unfolding lines
 lined-none os from d = record { laid = lays from [] d from d (omega arith) (sym (laid-nothing from d)); most = omega arith }
 
-pub lined-more : {os : List Optional} {from i at end : ℕ} {d out done : List ℕ} {o : Optional}
-    → Lined os from d i at out → getD os i absent ≡ o → end ≤ at + 63 → Lays at (line i o) out end done → Lined os from d (i + 1) end done
+pub lined-more : {os : List MaybeList} {from i at end : ℕ} {d out done : List ℕ} {o : MaybeList}
+    → Lined os from d i at out → getD os i none ≡ o → end ≤ at + 63 → Lays at (line i o) out end done → Lined os from d (i + 1) end done
 lined-more {os} {i = i} g e h l = record { laid = rw (lines-more i os, e) (lays-then (g .laid) l); most = omega (arith, g .most) }
 
 -- the heading, and all lines
-pub lined-all : {os : List Optional} {from n i at : ℕ} {d out done : List ℕ} → n ≡ length os → i ≡ n
+pub lined-all : {os : List MaybeList} {from n i at : ℕ} {d out done : List ℕ} → n ≡ length os → i ≡ n
     → Lays 0 (objects-text ++ (decimal n ++ newline)) d from out → Lined os from out i at done → (at ≡ length (listing os)) × (done ≡ laidAt 0 (listing os) d)
 unfolding listing heading
 lined-all e f h g = let l = lays-then h (rw f at (g .laid)) in rw (← e) (l .ends ∙ zero-add _, l .text)
@@ -124,7 +126,7 @@ module _ (n : ℕ) (out : List ℕ) {r : ℕ} (e : r ≡ length (badLine n)) whe
   unfolding textOf answerFor
   bad-all h f = let w = written-all (BadAt n) out (omega arith) in (ap (λ (k : ℕ). Done k false 0) e ∙ w .0, f ∙ w .1)
 
-module _ (os : List Optional) (out : List ℕ) {r : ℕ} (e : r ≡ length (listing os)) where
+module _ (os : List MaybeList) (out : List ℕ) {r : ℕ} (e : r ≡ length (listing os)) where
   pub listed-no : length out < r → {a : Answer} → a ≡ Refused 8 0 0 → (a ≡ written (Listed os) out .answer) × (out ≡ written (Listed os) out .bytes)
   unfolding textOf
   listed-no h f = written-no (Listed os) out (omega arith) f

@@ -2,7 +2,7 @@
 use mathlib.Core.Path.{_≡_, refl, sym, ap, _∙_}
 use mathlib.Core.Bool.{Bool, true, false, cond}
 use mathlib.Core.List.{List, [], _∷_}
-use mathlib.Core.Option.{some}
+use mathlib.Core.Option.{some, none}
 use Prim.Native.Nat.{ℕ, zero, suc, _+_, _-_, _≤_, _<_}
 use native.Mathlib.Nat.{zero-add}
 use native.Mathlib.Omega.{arith}
@@ -13,17 +13,18 @@ use borrow.Author.Tests.{leb-true, eq-eqb, ne-eqb}
 use Rattle.list.proofs.Places.{split}
 use Rattle.list.proofs.Tests.{both-true}
 use Rattle.list.proofs.Writes.{front-all}
-use Rattle.inherit.specs.Given.{Optional, absent}
+use Rattle.inherit.specs.Asked.{MaybeList}
 use Rattle.inherit.specs.Compute.{ruleOk}
 use Rattle.tree.specs.declared.Answer.{Answer}
 use Rattle.tree.specs.Room.{limitsOk, settingsFor, emptyRoom}
 use Rattle.tree.specs.Formed.{formed}
-use Rattle.tree.specs.Calls.{need, readable, short, startOk, startTo}
+use Rattle.list.specs.Order.{need}
+use Rattle.tree.specs.Calls.{readable, short, startOk, startTo}
 use Rattle.tree.specs.History.{Call, afresh, remains}
 use Rattle.tree.specs.Replay.{Change, rules, shown}
 use Rattle.tree.specs.Played.{accepted, played}
 use Rattle.tree.proofs.Lays.{length-settings}
-use Rattle.tree.proofs.Demand3.{Reached, demand3, keeps}
+use Rattle.tree.proofs.Reaches.{Reached, reaches, keeps}
 use Rattle.script.specs.declared.records.Found.{Found}
 use Rattle.script.specs.declared.records.Found.the-variants.{Cut, Bad, Record}
 use Rattle.script.specs.Record.{asked, stepOf}
@@ -34,7 +35,7 @@ use Rattle.script.specs.Play.{mapping, beginTo, fresh, Ending, Listed, B
 -- ---- the room
 
 -- the start of a script's tree is accepted
-start-done : (r : List ℕ) → length r ≡ 55400 → accepted (startTo 16 16 2 mapping absent r .answer) ≡ true
+start-done : (r : List ℕ) → length r ≡ 55400 → accepted (startTo 16 16 2 mapping none r .answer) ≡ true
 unfolding startTo need readable short startOk limitsOk ruleOk
 start-done r h = rw h refl
 
@@ -43,21 +44,21 @@ unfolding beginTo
 begun = start-done (replicate 55400 0) (length-replicate {A = ℕ} 55400 0)
 
 -- whatever the room held
-begin-empty : (r : List ℕ) → length r ≡ 55400 → beginTo r .bytes ≡ emptyRoom 16 16 2 mapping absent
+begin-empty : (r : List ℕ) → length r ≡ 55400 → beginTo r .bytes ≡ emptyRoom 16 16 2 mapping none
 unfolding beginTo startTo need readable short startOk limitsOk ruleOk emptyRoom
 begin-empty r h =
     rw h
-    (front-all (emptyRoom 16 16 2 mapping absent) r
-    (rw h (simp (length-append, length-replicate, length-settings 2 mapping absent refl) (omega arith))))
+    (front-all (emptyRoom 16 16 2 mapping none) r
+    (rw h (simp (length-append, length-replicate, length-settings 2 mapping none refl) (omega arith))))
 
 pub begin-any : (r : List ℕ) → length r ≡ 55400 → beginTo r .bytes ≡ fresh
 unfolding fresh
 begin-any r h = begin-empty r h ∙ sym (begin-empty (replicate 55400 0) (length-replicate {A = ℕ} 55400 0))
 
 -- every mixture of calls on it is demand 3's
-pub script-reached : (qs : List (Call Change)) → Reached 16 16 (settingsFor 2 mapping absent) fresh qs
+pub script-reached : (qs : List (Call Change)) → Reached 16 16 (settingsFor 2 mapping none) fresh qs
 unfolding beginTo fresh
-script-reached qs = demand3 16 16 2 mapping absent (replicate 55400 0) begun qs
+script-reached qs = reaches 16 16 2 mapping none (replicate 55400 0) begun qs
 
 pub fresh-formed : formed fresh ≡ true
 unfolding played
@@ -175,21 +176,21 @@ pieces-end s ps h e =
 
 -- ---- the listing
 
-listed-by : (b : Bool) (f os : List Optional) (n : ℕ) → cond b (Listed f) (BadAt n) ≡ Listed os → f ≡ os
+listed-by : (b : Bool) (f os : List MaybeList) (n : ℕ) → cond b (Listed f) (BadAt n) ≡ Listed os → f ≡ os
 listed-by true f os n h = let e : f ≡ os = cc in e
 listed-by false f os n h = let z : _≡_ {A = ℕ} 0 1 = cc in absurd (omega arith)
 
-ends-listed : (n : ℕ) (f : Run) (os : List Optional) → endOf n f ≡ Listed os → shown (f .room) .lists ≡ os
+ends-listed : (n : ℕ) (f : Run) (os : List MaybeList) → endOf n f ≡ Listed os → shown (f .room) .lists ≡ os
 unfolding endOf
 ends-listed n f os h = listed-by (eqb (5 + f .used) n) (shown (f .room) .lists) os (5 + f .used) h
 
-head-listed : (b : Bool) (e : Ending) (os : List Optional) → cond b e (BadAt 0) ≡ Listed os → e ≡ Listed os
+head-listed : (b : Bool) (e : Ending) (os : List MaybeList) → cond b e (BadAt 0) ≡ Listed os → e ≡ Listed os
 head-listed true e os h = h
 head-listed false e os h = let z : _≡_ {A = ℕ} 0 1 = cc in absurd (omega arith)
 
 -- what a script lists are the lists worked out afresh from the root, of a replay of its accepted changes not since undone
-pub listed-afresh : (s : List ℕ) (os : List Optional) → endingOf s ≡ Listed os
-    → afresh (rules 16 (settingsFor 2 mapping absent)) 16 (remains (rules 16 (settingsFor 2 mapping absent)) 16 (callsOf (drop 5 s)) .done) ≡ some os
+pub listed-afresh : (s : List ℕ) (os : List MaybeList) → endingOf s ≡ Listed os
+    → afresh (rules 16 (settingsFor 2 mapping none)) 16 (remains (rules 16 (settingsFor 2 mapping none)) 16 (callsOf (drop 5 s)) .done) ≡ some os
 unfolding endingOf
 listed-afresh s os h =
     let e = ends-listed (length s) (runOf (drop 5 s) fresh) os (head-listed (headOk s) (endOf (length s) (runOf (drop 5 s) fresh)) os h) in

@@ -7,7 +7,7 @@ use lib.ListN.{getD, drop}
 use lib.Dec.{eqb}
 use borrow.Author.Tests.{ne-eqb}
 use Rattle.list.specs.Bytes.{le, part, guidAt}
-use Rattle.inherit.specs.Given.{Optional, lent}
+use Rattle.inherit.specs.Asked.{MaybeList, lent}
 use Rattle.tree.specs.Calls.{list, mark, owners}
 use Rattle.tree.specs.History.{edit, undo}
 use Rattle.tree.specs.Replay.{add, alter}
@@ -90,7 +90,7 @@ pub list-by : (t p : List ℕ) (at n : ℕ) → n ≡ le 2 (drop at t) → p ≡
 list-by t p at n e h = rw (h, e) refl
 
 -- the object that record 1 adds, field by field
-module _ (t : List ℕ) (p : ℕ) (c m : Bool) (k o g : List ℕ) (l : Optional) where
+module _ (t : List ℕ) (p : ℕ) (c m : Bool) (k o g : List ℕ) (l : MaybeList) where
   pub new-by : p ≡ parentOf (getD t 1 0) → c ≡ flag 2 t → m ≡ flag 3 t → k ≡ guidAt t 4 → o ≡ nameIn 20 t → g ≡ nameIn (nameEnd 20 t) t
       → l ≡ listIn (namesEnd 20 t) t
       → record { parent = p; container = c; mark = m; type = k; owner = o; group = g; list = l } ≡ newIn t

@@ -2,16 +2,17 @@
 use mathlib.Core.Path.{_≡_, refl, sym, ap, _∙_}
 use mathlib.Core.Bool.{true}
 use mathlib.Core.List.{List, [], _∷_, _++_, flatten}
-use mathlib.Core.Option.{Option, some}
+use mathlib.Core.Option.{Option, some, none}
 use Prim.Native.Nat.{ℕ}
 use lib.ListN.{drop, replicate}
 use Rattle.list.specs.Bytes.{le, part, putAt}
-use Rattle.inherit.specs.Given.{Optional, absent, present}
+use Rattle.inherit.specs.Asked.{MaybeList}
 use Rattle.inherit.proofs.Worked.{system, parentWith}
+use Rattle.tree.specs.General.{rest}
 use Rattle.tree.specs.Room.{settingsFor}
 use Rattle.tree.specs.Formed.{placed}
 use Rattle.tree.specs.Calls.{short, list, mark, owners, editAt, editBytes, nobody}
-use Rattle.tree.specs.History.{edit, undo, rest, replay, afresh, noted, unnoted, next, remains}
+use Rattle.tree.specs.History.{edit, undo, replay, afresh, noted, unnoted, next, remains}
 use Rattle.tree.specs.Replay.{alter, reads, fine, change, rules, shown}
 use Rattle.tree.proofs.Worked.{lists, bytes-open, entries-open, lists-open, copies-open, last-open, compute-open, tree-open}
 use Rattle.script.specs.declared.records.Found.the-variants.{Cut, Bad, Record}
@@ -40,8 +41,8 @@ steps-worked = (refl, (refl, (refl, (refl, (refl, (refl, (refl, (refl, (refl, re
 
 -- a length of 0 removes the list; FF is no parent, and an object's number like any other
 pub asked-worked :
-    (asked (2 ∷ 7 ∷ 0 ∷ 0 ∷ []) ≡ edit (alter 7 (list absent)))
-    × ((asked (2 ∷ 0xFF ∷ 1 ∷ 0 ∷ 9 ∷ []) ≡ edit (alter 255 (list (present (9 ∷ [])))))
+    (asked (2 ∷ 7 ∷ 0 ∷ 0 ∷ []) ≡ edit (alter 7 (list none)))
+    × ((asked (2 ∷ 0xFF ∷ 1 ∷ 0 ∷ 9 ∷ []) ≡ edit (alter 255 (list (some (9 ∷ [])))))
     × ((asked (3 ∷ 1 ∷ 1 ∷ []) ≡ edit (alter 1 (mark true)))
     × ((asked (4 ∷ 0 ∷ 0 ∷ 2 ∷ 7 ∷ 8 ∷ []) ≡ edit (alter 0 (owners [] (7 ∷ 8 ∷ []))))
     × ((asked (5 ∷ []) ≡ undo) × ((parentOf 0xFF ≡ nobody) × (parentOf 0xFE ≡ 254))))))
@@ -57,7 +58,7 @@ numbers-worked = (refl, (refl, (refl, refl)))
 
 -- "objects 2", "0 none 0", "1 8 0"; and "bad at 81"
 pub texts-worked :
-    (listing (absent ∷ present (2 ∷ 0 ∷ 8 ∷ 0 ∷ 0 ∷ 0 ∷ 0 ∷ 0 ∷ []) ∷ [])
+    (listing (none ∷ some (2 ∷ 0 ∷ 8 ∷ 0 ∷ 0 ∷ 0 ∷ 0 ∷ 0 ∷ []) ∷ [])
     ≡ 111 ∷ 98 ∷ 106 ∷ 101 ∷ 99 ∷ 116 ∷ 115 ∷ 32 ∷ 50 ∷ 10
     ∷ 48 ∷ 32 ∷ 110 ∷ 111 ∷ 110 ∷ 101 ∷ 32 ∷ 48 ∷ 10
     ∷ 49 ∷ 32 ∷ 56 ∷ 32 ∷ 48 ∷ 10 ∷ [])
@@ -98,11 +99,11 @@ records-open = tt
 
 -- what is worked out afresh from its two changes
 afresh-worked :
-    afresh (rules 16 (settingsFor 2 mapping absent)) 16 (remains (rules 16 (settingsFor 2 mapping absent)) 16 (callsOf (drop 5 document)) .done) ≡ some lists
+    afresh (rules 16 (settingsFor 2 mapping none)) 16 (remains (rules 16 (settingsFor 2 mapping none)) 16 (callsOf (drop 5 document)) .done) ≡ some lists
 unfolding bytes-open entries-open lists-open copies-open last-open compute-open tree-open past-open records-open
 afresh-worked = refl
 
-some-same : (a b : List Optional) → _≡_ {A = Option (List Optional)} (some a) (some b) → a ≡ b
+some-same : (a b : List MaybeList) → _≡_ {A = Option (List MaybeList)} (some a) (some b) → a ≡ b
 some-same a b h = let e : a ≡ b = cc in e
 
 -- the three lines of document 01, byte for byte

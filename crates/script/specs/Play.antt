@@ -2,15 +2,17 @@
 use Prim.Native.Nat.{ℕ, _+_}
 use mathlib.Core.List.{List}
 use mathlib.Core.Bool.{Bool, true, false, cond, _&&_}
+use mathlib.Core.Option.{none}
 use lib.ListN.{length, getD, drop, replicate}
 use lib.Dec.{eqb, leb}
 use Rattle.list.specs.Bytes.{le}
 use Rattle.inherit.specs.declared.Mapping.{Mapping}
-use Rattle.inherit.specs.Given.{Optional, absent}
+use Rattle.inherit.specs.Asked.{MaybeList}
 use Rattle.tree.specs.declared.Answer.{Answer}
 use Rattle.tree.specs.declared.Answer.the-variants.{Done}
 use Rattle.tree.specs.Formed.{formed}
-use Rattle.tree.specs.Calls.{Outcome, need, copied, startTo}
+use Rattle.list.specs.Order.{need}
+use Rattle.tree.specs.Calls.{Outcome, copied, startTo, refuse}
 use Rattle.tree.specs.Replay.{shown}
 use Rattle.script.specs.Fold.{Run, runOf, Stage}
 use Rattle.script.specs.Text.{listing, badLine}
@@ -21,7 +23,7 @@ mapping = record { read = 0x00120089; write = 0x00120116; execute = 0x001200A0; 
 
 -- the program's tree: limits 16 and 16, rule 2, that mapping, no default
 unfoldable pub beginTo : List ℕ → Outcome
-beginTo r = startTo 16 16 2 mapping absent r
+beginTo r = startTo 16 16 2 mapping none r
 
 -- `AXS` and the 16-bit version 1
 unfoldable pub headOk : List ℕ → Bool
@@ -34,7 +36,7 @@ headOk s =
 
 -- how a script ends: by the computed lists of all objects, or bad at an offset
 pub data Ending : Type 0 where
-  Listed : List Optional → Ending
+  Listed : List MaybeList → Ending
   BadAt : ℕ → Ending
 
 -- all bytes were whole records, or one that is bad or cut begins where they end
@@ -69,7 +71,7 @@ written e out = copied (answerFor e) (textOf e) out
 
 -- a room's listing: 13, 8
 unfoldable pub listingTo : List ℕ → List ℕ → Outcome
-listingTo r out = need (formed r) 13 out (written (Listed (shown r .lists)) out)
+listingTo r out = need (formed r) (refuse 13 0 0 out) (written (Listed (shown r .lists)) out)
 
 -- a whole script: 8
 unfoldable pub playTo : List ℕ → List ℕ → Outcome

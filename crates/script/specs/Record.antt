@@ -5,7 +5,7 @@ use mathlib.Core.Bool.{Bool, true, cond, not, _&&_}
 use lib.ListN.{length, getD, drop}
 use lib.Dec.{eqb, leb}
 use Rattle.list.specs.Bytes.{le, part, guidAt}
-use Rattle.inherit.specs.Given.{Optional, lent}
+use Rattle.inherit.specs.Asked.{MaybeList, lent}
 use Rattle.tree.specs.Held.{New}
 use Rattle.tree.specs.Calls.{list, mark, owners, nobody}
 use Rattle.tree.specs.History.{Call, edit, undo}
@@ -30,7 +30,7 @@ abbrev pub namesEnd : ℕ → List ℕ → ℕ
 namesEnd at t = nameEnd (nameEnd at t) t
 
 -- a 16-bit length at `at` (0 absent), then the list; and where it ends
-abbrev pub listIn : ℕ → List ℕ → Optional
+abbrev pub listIn : ℕ → List ℕ → MaybeList
 listIn at t = lent (not (eqb (le 2 (drop at t)) 0)) (part (at + 2) (le 2 (drop at t)) t)
 
 unfoldable pub listEnd : ℕ → List ℕ → ℕ

@@ -2,11 +2,12 @@
 use Prim.Native.Nat.{ℕ, zero, suc, _+_, _/_, _%_}
 use mathlib.Core.List.{List, [], _∷_, _++_}
 use mathlib.Core.Bool.{Bool, true, false, cond}
+use mathlib.Core.Option.{none, some}
 use lib.ListN.{length, getD, take, drop}
 use lib.Dec.{ltb}
 use Rattle.list.specs.Bytes.{putOn}
 use Rattle.list.specs.List.{countOf}
-use Rattle.inherit.specs.Given.{Optional, absent, present}
+use Rattle.inherit.specs.Asked.{MaybeList}
 
 -- n in decimal, with no zeros in front: all digits but the last, if there are more, then the last
 unfoldable pub digits : ℕ → ℕ → List ℕ
@@ -38,25 +39,25 @@ columnsBy n true k = decimal n ++ (space ++ decimal k)
 columnsBy n false k = none-text
 
 -- a computed list: its length and its entry count
-unfoldable pub columns : Optional → List ℕ
-columns absent = columnsBy 0 false 0
-columns (present s) = columnsBy (length s) true (countOf s)
+unfoldable pub columns : MaybeList → List ℕ
+columns none = columnsBy 0 false 0
+columns (some s) = columnsBy (length s) true (countOf s)
 
 -- object i's line
-unfoldable pub line : ℕ → Optional → List ℕ
+unfoldable pub line : ℕ → MaybeList → List ℕ
 line i o = decimal i ++ (space ++ (columns o ++ newline))
 
 -- the first n lines
-unfoldable pub lines : ℕ → List Optional → List ℕ
+unfoldable pub lines : ℕ → List MaybeList → List ℕ
 lines zero os = []
-lines (suc n) os = lines n os ++ line n (getD os n absent)
+lines (suc n) os = lines n os ++ line n (getD os n none)
 
 -- how many objects stand
 unfoldable pub heading : ℕ → List ℕ
 heading n = objects-text ++ (decimal n ++ newline)
 
 -- the listing of all objects' computed lists
-unfoldable pub listing : List Optional → List ℕ
+unfoldable pub listing : List MaybeList → List ℕ
 listing os = heading (length os) ++ lines (length os) os
 
 -- the line that ends a run

@@ -2,6 +2,7 @@
 use mathlib.Core.Path.{_≡_, refl, sym, ap, _∙_}
 use mathlib.Core.Bool.{Bool, true, false, cond}
 use mathlib.Core.List.{List, [], _∷_, _++_, append-assoc}
+use mathlib.Core.Option.{none, some}
 use Prim.Native.Nat.{ℕ, _+_, _*_, _≤_, _<_}
 use native.Mathlib.Nat.{zero-add}
 use native.Mathlib.Omega.{arith}
@@ -17,13 +18,14 @@ use Rattle.list.proofs.Answers.{ListNumber, list-number}
 use Rattle.list.proofs.Places.{length-part}
 use Rattle.list.proofs.Tests.{both-true, le-or, off}
 use Rattle.inherit.specs.declared.Mapping.{Mapping}
-use Rattle.inherit.specs.Given.{Optional, absent, present}
+use Rattle.inherit.specs.Asked.{MaybeList}
 use Rattle.inherit.specs.Compute.{ruleOk}
 use Rattle.tree.specs.declared.Answer.{Answer}
 use Rattle.tree.specs.Held.{isDone, idIn, ownerOf, groupOf}
 use Rattle.tree.specs.Room.{limit, objects, own, roomFor, limitsOk, roomOf, settingsFor, emptyRoom}
 use Rattle.tree.specs.Formed.{Head, placed, formed}
-use Rattle.tree.specs.Calls.{Outcome, need, refuse, onReading, readable, onObject, nobody, short, told, startOk, bytesIf, copied, dataOf}
+use Rattle.list.specs.Order.{need}
+use Rattle.tree.specs.Calls.{Outcome, refuse, onReading, readable, onObject, nobody, short, told, startOk, bytesIf, copied, dataOf}
 use Rattle.tree.specs.Faults.{objectFault, addFault, faultBy, faultOf}
 use Rattle.tree.specs.Replay.{reads}
 use Rattle.tree.proofs.Tested.{head-says, formed-parts}
@@ -35,11 +37,11 @@ use Rattle.tree.proofs.Lays.{Written, write-one, write-next, write-more
 pub settle : {o p : Outcome} {a : Answer} {b : List ℕ} → o ≡ p → a ≡ p .answer → b ≡ p .bytes → (a ≡ o .answer) × (b ≡ o .bytes)
 settle e f g = (f ∙ sym (ap (λ (x : Outcome). x .answer) e), g ∙ sym (ap (λ (x : Outcome). x .bytes) e))
 
-pub need-yes : {b : Bool} (k : ℕ) (r : List ℕ) (rest : Outcome) → b ≡ true → need b k r rest ≡ rest
+pub need-yes : {b : Bool} (k : ℕ) (r : List ℕ) (rest : Outcome) → b ≡ true → need b (refuse k 0 0 r) rest ≡ rest
 unfolding need
 need-yes k r rest e = rw e
 
-pub need-no : {b : Bool} (k : ℕ) (r : List ℕ) (rest : Outcome) → b ≡ false → need b k r rest ≡ refuse k 0 0 r
+pub need-no : {b : Bool} (k : ℕ) (r : List ℕ) (rest : Outcome) → b ≡ false → need b (refuse k 0 0 r) rest ≡ refuse k 0 0 r
 unfolding need
 need-no k r rest e = rw e
 
@@ -54,39 +56,39 @@ unfolding faultBy onReading
 on-reading (Read l n) which r rest k = (λ h. refl, λ h. absurd (h refl))
 on-reading (Unread j at) which r rest k = (λ h. absurd (omega (arith, k .0)), λ h. refl)
 
-pub readable-good : (o : Optional) (which : ℕ) (r : List ℕ) (rest : Outcome) → faultOf o .number ≡ 0 → readable o which r rest ≡ rest
+pub readable-good : (o : MaybeList) (which : ℕ) (r : List ℕ) (rest : Outcome) → faultOf o .number ≡ 0 → readable o which r rest ≡ rest
 unfolding faultOf readable
-readable-good absent which r rest h = refl
-readable-good (present s) which r rest h = on-reading (checkOf access s) which r rest (list-number access s) .0 h
+readable-good none which r rest h = refl
+readable-good (some s) which r rest h = on-reading (checkOf access s) which r rest (list-number access s) .0 h
 
-pub readable-bad : (o : Optional) (which : ℕ) (r : List ℕ) (rest : Outcome) → (faultOf o .number ≡ 0 → ⊥)
+pub readable-bad : (o : MaybeList) (which : ℕ) (r : List ℕ) (rest : Outcome) → (faultOf o .number ≡ 0 → ⊥)
     → readable o which r rest ≡ refuse (faultOf o .number) which (faultOf o .offset) r
 unfolding faultOf readable
-readable-bad absent which r rest h = absurd (h refl)
-readable-bad (present s) which r rest h = on-reading (checkOf access s) which r rest (list-number access s) .1 h
+readable-bad none which r rest h = absurd (h refl)
+readable-bad (some s) which r rest h = on-reading (checkOf access s) which r rest (list-number access s) .1 h
 
 reading-done : (d : Reading) → ListNumber d → faultBy d .number ≡ 0 → isDone d ≡ true
 unfolding faultBy
 reading-done (Read l n) k h = refl
 reading-done (Unread j at) k h = absurd (omega (arith, k .0))
 
-pub faults-reads : (o : Optional) → faultOf o .number ≡ 0 → reads o ≡ true
+pub faults-reads : (o : MaybeList) → faultOf o .number ≡ 0 → reads o ≡ true
 unfolding faultOf reads
-faults-reads absent h = refl
-faults-reads (present s) h = reading-done (checkOf access s) (list-number access s) h
+faults-reads none h = refl
+faults-reads (some s) h = reading-done (checkOf access s) (list-number access s) h
 
 -- ---- the calls that name an object
 
 abbrev byTwo : Bool → Bool → ℕ
 byTwo a b = cond a (cond b 0 9) 13
 
-two-good : (a b : Bool) (x : List ℕ) (rest : Outcome) → byTwo a b ≡ 0 → need a 13 x (need b 9 x rest) ≡ rest
+two-good : (a b : Bool) (x : List ℕ) (rest : Outcome) → byTwo a b ≡ 0 → need a (refuse 13 0 0 x) (need b (refuse 9 0 0 x) rest) ≡ rest
 unfolding need
 two-good true true x rest h = refl
 two-good true false x rest h = absurd (omega arith)
 two-good false b x rest h = absurd (omega arith)
 
-two-bad : (a b : Bool) (x : List ℕ) (rest : Outcome) → (byTwo a b ≡ 0 → ⊥) → need a 13 x (need b 9 x rest) ≡ refuse (byTwo a b) 0 0 x
+two-bad : (a b : Bool) (x : List ℕ) (rest : Outcome) → (byTwo a b ≡ 0 → ⊥) → need a (refuse 13 0 0 x) (need b (refuse 9 0 0 x) rest) ≡ refuse (byTwo a b) 0 0 x
 unfolding need
 two-bad true true x rest h = absurd (h refl)
 two-bad true false x rest h = refl
@@ -136,14 +138,14 @@ pub record Addable (r : List ℕ) (p : ℕ) : Type 0 where
 abbrev byThree : Bool → Bool → Bool → ℕ
 byThree a b d = cond a (cond b (cond d 0 10) 9) 13
 
-three-good : (a b d : Bool) (x : List ℕ) (rest : Outcome) → byThree a b d ≡ 0 → need a 13 x (need b 9 x (need d 10 x rest)) ≡ rest
+three-good : (a b d : Bool) (x : List ℕ) (rest : Outcome) → byThree a b d ≡ 0 → need a (refuse 13 0 0 x) (need b (refuse 9 0 0 x) (need d (refuse 10 0 0 x) rest)) ≡ rest
 unfolding need
 three-good true true true x rest h = refl
 three-good true true false x rest h = absurd (omega arith)
 three-good true false d x rest h = absurd (omega arith)
 three-good false b d x rest h = absurd (omega arith)
 
-three-bad : (a b d : Bool) (x : List ℕ) (rest : Outcome) → (byThree a b d ≡ 0 → ⊥) → need a 13 x (need b 9 x (need d 10 x rest)) ≡ refuse (byThree a b d) 0 0 x
+three-bad : (a b d : Bool) (x : List ℕ) (rest : Outcome) → (byThree a b d ≡ 0 → ⊥) → need a (refuse 13 0 0 x) (need b (refuse 9 0 0 x) (need d (refuse 10 0 0 x) rest)) ≡ refuse (byThree a b d) 0 0 x
 unfolding need
 three-bad true true true x rest h = absurd (h refl)
 three-bad true true false x rest h = refl
@@ -158,12 +160,12 @@ three-true false b d h = absurd (omega arith)
 
 module _ (r : List ℕ) (p : ℕ) where
   pub add-good : (x : List ℕ) (rest : Outcome) → addFault r p ≡ 0
-      → need (formed r) 13 x (need (placed nobody (λ j. own j r) (objects r) p) 9 x (need (ltb (objects r) (limit r)) 10 x rest)) ≡ rest
+      → need (formed r) (refuse 13 0 0 x) (need (placed nobody (λ j. own j r) (objects r) p) (refuse 9 0 0 x) (need (ltb (objects r) (limit r)) (refuse 10 0 0 x) rest)) ≡ rest
   unfolding addFault
   add-good x rest h = three-good (formed r) (placed nobody (λ j. own j r) (objects r) p) (ltb (objects r) (limit r)) x rest h
 
   pub add-bad : (x : List ℕ) (rest : Outcome) → (addFault r p ≡ 0 → ⊥)
-      → need (formed r) 13 x (need (placed nobody (λ j. own j r) (objects r) p) 9 x (need (ltb (objects r) (limit r)) 10 x rest)) ≡ refuse (addFault r p) 0 0 x
+      → need (formed r) (refuse 13 0 0 x) (need (placed nobody (λ j. own j r) (objects r) p) (refuse 9 0 0 x) (need (ltb (objects r) (limit r)) (refuse 10 0 0 x) rest)) ≡ refuse (addFault r p) 0 0 x
   unfolding addFault
   add-bad x rest h = three-bad (formed r) (placed nobody (λ j. own j r) (objects r) p) (ltb (objects r) (limit r)) x rest h
 
@@ -224,7 +226,7 @@ unfolding putAt
 put-front b d = rw zero-add
 
 -- an empty room, as the code lays it
-pub empty-laid : (n s rule : ℕ) (m : Mapping) (o : Optional) (r l₁ l₂ : List ℕ) → short o ≡ true → roomFor n s ≤ length r
+pub empty-laid : (n s rule : ℕ) (m : Mapping) (o : MaybeList) (r l₁ l₂ : List ℕ) → short o ≡ true → roomFor n s ≤ length r
     → l₁ ≡ putAt 4 (settingsFor rule m o) (set (set (set (set r 0 n) 1 s) 2 0) 3 0)
     → l₂ ≡ putAt 1048 (replicate (n * 2211 + s * 1186) 0) l₁
     → l₂ ≡ front (emptyRoom n s rule m o) r
@@ -247,9 +249,9 @@ module _ (a : Answer) (b out : List ℕ) where
   unfolding copied
   copied-none h = need-no 8 out _ (lt-leb (length b) (length out) h)
 
-pub absent-copied : (out : List ℕ) → copied (told absent) (bytesIf absent) out ≡ record { answer = told absent; bytes = out }
+pub absent-copied : (out : List ℕ) → copied (told none) (bytesIf none) out ≡ record { answer = told none; bytes = out }
 unfolding bytesIf
-absent-copied out = copied-all (told absent) [] out (omega arith)
+absent-copied out = copied-all (told none) [] out (omega arith)
 
 -- own data but for the list: how long it is, and how the code lays it
 pub id-most : (f : List ℕ) → length (idIn f) ≤ 68

@@ -13,9 +13,10 @@ use lib.Dec.{eqb, ltb}
 use borrow.Author.Tests.{eq-eqb, ne-eqb, lt-ltb, eqb-true, ltb-true}
 use Rattle.list.proofs.Tests.{both-true}
 use Rattle.list.proofs.Sids.{same-true, same-yes}
+use Rattle.tree.specs.General.{every}
 use Rattle.tree.specs.Held.{blockOk, alike, parentOf, kindOf, typeOf}
 use Rattle.tree.specs.Room.{tagOf, numberOf, savedIn}
-use Rattle.tree.specs.Formed.{every, againOk, stepOk, standing, stepsOk}
+use Rattle.tree.specs.Formed.{againOk, stepOk, standing, stepsOk}
 use Rattle.tree.proofs.Tested.{standing-most}
 
 -- ---- a test of every number below n

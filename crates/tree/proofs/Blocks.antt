@@ -10,7 +10,7 @@ use lib.Dec.{leb}
 use borrow.Author.Tests.{leb-true, le-leb}
 use Rattle.list.specs.Bytes.{part, guidAt}
 use Rattle.list.proofs.Tests.{both-true}
-use Rattle.inherit.specs.Given.{Optional}
+use Rattle.inherit.specs.Asked.{MaybeList}
 use Rattle.inherit.specs.Compute.{ordinary}
 use Rattle.tree.specs.Held.{held, slotFor, slotOk, idIn, idFor, idOk, parentOf, kindOf, markOf, typeOf, ownerOf, groupOf, ownSlot, ownList}
 use Rattle.tree.specs.Held.{blockOk, New, yes, blockFor}
@@ -51,7 +51,7 @@ pub record Laid (b : List ℕ) (p k m : ℕ) (t o g s : List ℕ) : Type 0 where
   pub slot : ownSlot b ≡ s
 
 -- and what they say
-pub record Shows (b : List ℕ) (p k m : ℕ) (t o g : List ℕ) (l : Optional) : Type 0 where
+pub record Shows (b : List ℕ) (p k m : ℕ) (t o g : List ℕ) (l : MaybeList) : Type 0 where
   pub long : length b ≡ 1184
   pub parent : parentOf b ≡ p
   pub kind : kindOf b ≡ k
@@ -83,7 +83,7 @@ module _ {b : List ℕ} {p k m : ℕ} {t o g s : List ℕ} (x : Laid b p k m t o
   unfolding blockOk
   laid-good hk hm ho hg hs = rw (x .kind, x .mark, x .owner, x .group, x .slot, hk, hm, ho, hg) hs
 
-  pub laid-shows : {o₁ g₁ : List ℕ} {l : Optional} → idIn o ≡ o₁ → idIn g ≡ g₁ → held s ≡ l → Shows b p k m t o₁ g₁ l
+  pub laid-shows : {o₁ g₁ : List ℕ} {l : MaybeList} → idIn o ≡ o₁ → idIn g ≡ g₁ → held s ≡ l → Shows b p k m t o₁ g₁ l
   laid-shows ho hg hs =
       record {
         long = x .long;

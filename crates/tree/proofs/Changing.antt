@@ -11,7 +11,7 @@ use borrow.Author.Tests.{lt-ltb, le-ltb}
 use Rattle.list.specs.Bytes.{part, putAt, putOn}
 use Rattle.list.proofs.Places.{part-most, put-whole}
 use Rattle.list.proofs.Writes.{put-all}
-use Rattle.inherit.specs.Given.{Optional}
+use Rattle.inherit.specs.Asked.{MaybeList}
 use Rattle.inherit.specs.Compute.{ordinary}
 use Rattle.tree.specs.declared.Answer.{Answer}
 use Rattle.tree.specs.declared.Answer.the-variants.{Done, Refused}
@@ -19,7 +19,8 @@ use Rattle.tree.specs.declared.tests.Fault.{Fault}
 use Rattle.tree.specs.Held.{New, held, blockFor}
 use Rattle.tree.specs.Room.{limit, objects, kept, ownAt, own, slot, step, numberOf, area}
 use Rattle.tree.specs.Formed.{Head, standing, formed}
-use Rattle.tree.specs.Calls.{Outcome, refuse, need, readable, short, told, popped, settled, changed, latest, undone, finish, finishUndo, Edit}
+use Rattle.list.specs.Order.{need}
+use Rattle.tree.specs.Calls.{Outcome, refuse, readable, short, told, popped, settled, changed, latest, undone, finish, finishUndo, Edit}
 use Rattle.tree.specs.Calls.{list, mark, owners, editAt, editBytes, tested, addTo, alterTo, undoTo}
 use Rattle.tree.specs.Faults.{objectFault, addFault, faultOf}
 use Rattle.tree.proofs.Tested.{head-says, Forms, formed-parts, standing-most}
@@ -119,7 +120,7 @@ module _ (o g r : List ℕ) where
   unfolding tested
   owners-pass h k rest = need-yes 6 r _ h ∙ need-yes 6 r rest k
 
-module _ (o : Optional) (r : List ℕ) (f : Fault) (e : f ≡ faultOf o) where
+module _ (o : MaybeList) (r : List ℕ) (f : Fault) (e : f ≡ faultOf o) where
   pub list-fails : (f .number ≡ 0 → ⊥) → (rest : Outcome) → tested (list o) r rest ≡ refuse (f .number) 2 (f .offset) r
   unfolding tested
   list-fails h rest = rw e (readable-bad o 2 r _ (rw e at h))
@@ -170,9 +171,9 @@ module _ (new : New) (r : List ℕ) (k : ℕ) (q : k ≡ addFault r (new .parent
   module _ (z : k ≡ 0) where
     add-goes : addTo new r
         ≡ readable (new .list) 2 r
-        (need (ordinary (new .owner)) 6 r
-        (need (ordinary (new .group)) 6 r
-        (need (short (new .list)) 8 r
+        (need (ordinary (new .owner)) (refuse 6 0 0 r)
+        (need (ordinary (new .group)) (refuse 6 0 0 r)
+        (need (short (new .list)) (refuse 8 0 0 r)
         (finish (objects r) r (changed 1 (objects r) 0 (blockFor new) (objects r + 1) (area r))))))
     unfolding addTo
     add-goes = add-good r (new .parent) r _ (sym q ∙ z)
@@ -183,9 +184,9 @@ module _ (new : New) (r : List ℕ) (k : ℕ) (q : k ≡ addFault r (new .parent
 
       module _ (h : f .number ≡ 0) where
         add-reads : addTo new r
-            ≡ need (ordinary (new .owner)) 6 r
-            (need (ordinary (new .group)) 6 r
-            (need (short (new .list)) 8 r
+            ≡ need (ordinary (new .owner)) (refuse 6 0 0 r)
+            (need (ordinary (new .group)) (refuse 6 0 0 r)
+            (need (short (new .list)) (refuse 8 0 0 r)
             (finish (objects r) r (changed 1 (objects r) 0 (blockFor new) (objects r + 1) (area r)))))
         add-reads = add-goes ∙ readable-good (new .list) 2 r _ (rw e at h)
 

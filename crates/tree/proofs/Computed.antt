@@ -6,7 +6,8 @@ use mathlib.Core.Option.{none, some}
 use Prim.Native.Nat.{ℕ, _<_}
 use native.Mathlib.Omega.{arith}
 use lib.ListN.{length}
-use borrow.Author.Tests.{le-leb}
+use lib.Dec.{eqb}
+use borrow.Author.Tests.{le-leb, eqb-true}
 use Rattle.list.specs.Bytes.{part}
 use Rattle.list.specs.Entry.{access}
 use Rattle.list.specs.List.{checkOf}
@@ -15,19 +16,16 @@ use Rattle.list.specs.declared.lists.Reading.the-variants.{Done, Refused as Unr
 use Rattle.list.proofs.Places.{split}
 use Rattle.list.proofs.Tests.{off}
 use Rattle.list.proofs.Told.{told}
-use Rattle.inherit.specs.declared.Settings.{Settings}
-use Rattle.inherit.specs.declared.Mapping.{Mapping}
-use Rattle.inherit.specs.declared.Computed.{Computed}
-use Rattle.inherit.specs.declared.Computed.the-variants.{Present, Absent, Refused}
-use Rattle.inherit.specs.Given.{Optional, absent, present, lent, typesOk}
+use Rattle.list.specs.Answer.{Values, done, refused}
+use Rattle.inherit.specs.Asked.{MaybeList, lent, typesOk}
 use Rattle.inherit.specs.Source.{sourceOf}
-use Rattle.inherit.specs.Branch.{Result, none as nothing, some as these, resultOf}
-use Rattle.inherit.specs.Compute.{ruleOk, sizeFor, fits, withRoom, computeOf, bytesFor, givenFor, answerFor}
+use Rattle.inherit.specs.Branch.{Result, absent, holds, resultOf}
+use Rattle.inherit.specs.Compute.{ruleOk, sizeFor, fits, withRoom, computeOf, bytesFor}
 use Rattle.inherit.proofs.Theorems.{Passed, passed-room, present-fits, Computes, computes, listed-source, absent-source}
-use Rattle.tree.specs.Held.{held, slotFor, slotOk, isDone, typeOf, ownerOf, groupOf, ownSlot, ownList, blockOk}
-use Rattle.tree.specs.Room.{ruleOf, mappingOf, defaultOf}
-use Rattle.tree.specs.Work.{given, settingsIn, givenIn, answerIn, resultIn, taken, computed}
-use Rattle.tree.specs.Calls.{short, bytesIf}
+use Rattle.tree.specs.Held.{held, slotFor, slotOk, isDone, typeOf, ownSlot, ownList, blockOk}
+use Rattle.tree.specs.Room.{ruleOf, defaultOf}
+use Rattle.tree.specs.Work.{askedIn, taken, computed}
+use Rattle.tree.specs.Calls.{short}
 use Rattle.tree.specs.Replay.{reads}
 use Rattle.tree.proofs.Lays.{length-slot}
 use Rattle.tree.proofs.Slots.{held-slot, slot-good, slot-reads, id-ordinary}
@@ -35,39 +33,35 @@ use Rattle.tree.proofs.Blocks.{length-guid, block-sound}
 
 -- ---- a list that was computed
 
-pub lent-given : (p : Optional) → lent (given p) (bytesIf p) ≡ p
-unfolding bytesIf
-lent-given absent = refl
-lent-given (present s) = refl
+module _ (e : List ℕ) (p : MaybeList) (b : List ℕ) where
+  abbrev answer : Values
+  answer = computeOf (askedIn e p b) 1024
 
--- the computation's law, of lists that may be absent
-computes-of : (rule : ℕ) (s : Settings) (m : Mapping) (types owner group : List ℕ) (p c d : Optional) (P C D : List ℕ) (room l n k : ℕ)
-    → lent (s .parent) P ≡ p → lent (s .creator) C ≡ c → lent (s .default) D ≡ d
-    → computeOf s (givenFor rule s m types owner group) types p c d room ≡ Present l n k
-    → Computes (bytesFor (resultOf access s (givenFor rule s m types owner group) p c d)) l n
-computes-of rule s m types owner group p c d P C D room l n k ep ec ed h =
-    let q : answerFor rule s m P C D types owner group room ≡ Present l n k = rw (ep, ec, ed) h in
-    rw (← ep, ← ec, ← ed) (computes rule s m P C D types owner group room l n k q)
+  abbrev bytes : List ℕ
+  bytes = bytesFor (resultOf access (askedIn e p b))
 
-module _ (e : List ℕ) (p : Optional) (b : List ℕ) where
-  good-of : (a : Computed) (o : Optional) → answerIn e p b 1024 ≡ a → taken a (bytesFor (resultIn e p b)) ≡ some o → (short o ≡ true) × (reads o ≡ true)
+  bytes-good : answer .present ≡ 1 → (short (some bytes) ≡ true) × (reads (some bytes) ≡ true)
   unfolding short reads
-  good-of (Present l n k) o q h =
-      let f = present-fits (settingsIn e p b) (givenIn e p b) (typeOf b) p (ownList b) (defaultOf e) 1024 l n k q in
-      let c =
-      computes-of (ruleOf e) (settingsIn e p b) (mappingOf e) (typeOf b) (ownerOf b) (groupOf b) p (ownList b) (defaultOf e) _ _ _ 1024 l n k
-      (lent-given p) (lent-given (ownList b)) (lent-given (defaultOf e)) q in
-      let x : o ≡ present (bytesFor (resultIn e p b)) = cc in
-      rw x (le-leb (length (bytesFor (resultIn e p b))) 1024 (omega arith), ap isDone (c .done))
-  good-of Absent o q h =
-      let x : o ≡ absent = cc in
-      rw x (refl, refl)
-  good-of (Refused k which at) o q h = let z : _≡_ {A = ℕ} 0 1 = cc in absurd (omega arith)
+  bytes-good h =
+      let f = present-fits (askedIn e p b) 1024 h in
+      let c = computes (askedIn e p b) 1024 h in
+      (le-leb (length bytes) 1024 (omega arith), ap isDone (c .done))
 
-  module _ (o : Optional) (h : computed e p b ≡ some o) where
+  good-of : (o : MaybeList) (z y : Bool) → eqb (answer .number) 0 ≡ z → eqb (answer .present) 1 ≡ y → cond z (some (lent y bytes)) none ≡ some o
+      → (short o ≡ true) × (reads o ≡ true)
+  unfolding short reads
+  good-of o true true q g h =
+      let x : o ≡ some bytes = cc in
+      rw x (bytes-good (eqb-true (answer .present) 1 g))
+  good-of o true false q g h =
+      let x : o ≡ none = cc in
+      rw x (refl, refl)
+  good-of o false y q g h = let z : _≡_ {A = ℕ} 0 1 = cc in absurd (omega arith)
+
+  module _ (o : MaybeList) (h : computed e p b ≡ some o) where
     computed-good : (short o ≡ true) × (reads o ≡ true)
     unfolding computed
-    computed-good = good-of (answerIn e p b 1024) o refl h
+    computed-good = good-of o _ _ refl refl h
 
     pub computed-short : short o ≡ true
     computed-short = computed-good .0
@@ -88,12 +82,12 @@ module _ (e : List ℕ) (p : Optional) (b : List ℕ) where
 -- ---- a list that was refused
 
 -- a list that reads as done passes the computation's test
-pub reads-source : (o : Optional) → reads o ≡ true → sourceOf o .number ≡ 0
+pub reads-source : (o : MaybeList) → reads o ≡ true → sourceOf o .number ≡ 0
 unfolding reads
-reads-source absent h = absent-source
-reads-source (present s) h = by (checkOf access s) refl h
+reads-source none h = absent-source
+reads-source (some s) h = by (checkOf access s) refl h
   where
-    by : (r : Reading) → checkOf access s ≡ r → isDone r ≡ true → sourceOf (present s) .number ≡ 0
+    by : (r : Reading) → checkOf access s ≡ r → isDone r ≡ true → sourceOf (some s) .number ≡ 0
     by (Done l n) e d = listed-source s n (told access s l n e .listed)
     by (Unread k at) e d = let z : _≡_ {A = ℕ} 0 1 = cc in absurd (omega arith)
 
@@ -105,11 +99,11 @@ types-good b = rw (length-guid b 3)
 pub record TooLong (r : Result) : Type 0 where
   pub entries : List (List ℕ)
   pub control : ℕ
-  pub is : r ≡ these entries control
+  pub is : r ≡ holds entries control
   pub long : 1024 < sizeFor entries
 
 module _ (bytes : List ℕ) where
-  no-room : (es : List (List ℕ)) (k : ℕ) (b : Bool) → fits 1024 es ≡ b → taken (cond b (Present (sizeFor es) (length es) k) (Refused 8 0 0)) bytes ≡ none
+  no-room : (es : List (List ℕ)) (k : ℕ) (b : Bool) → fits 1024 es ≡ b → taken (cond b (done (sizeFor es) 1 (length es) k) (refused 8 0 0)) bytes ≡ none
       → 1024 < sizeFor es
   no-room es k true f h = let z : _≡_ {A = ℕ} 0 1 = cc in absurd (omega arith)
   no-room es k false f h =
@@ -120,12 +114,12 @@ module _ (bytes : List ℕ) where
 
   refused-long : (r : Result) → taken (withRoom 1024 r) bytes ≡ none → TooLong r
   unfolding withRoom
-  refused-long nothing h = let z : _≡_ {A = ℕ} 0 1 = cc in absurd (omega arith)
-  refused-long (these es k) h = record { entries = es; control = k; is = refl; long = no-room es k (fits 1024 es) refl h }
+  refused-long absent h = let z : _≡_ {A = ℕ} 0 1 = cc in absurd (omega arith)
+  refused-long (holds es k) h = record { entries = es; control = k; is = refl; long = no-room es k (fits 1024 es) refl h }
 
-module _ (e : List ℕ) (p : Optional) (b : List ℕ) (h : ruleOk (ruleOf e) ≡ true) (hp : reads p ≡ true) (hb : blockOk b ≡ true)
+module _ (e : List ℕ) (p : MaybeList) (b : List ℕ) (h : ruleOk (ruleOf e) ≡ true) (hp : reads p ≡ true) (hb : blockOk b ≡ true)
     (hd : reads (defaultOf e) ≡ true) where
-  all-passed : Passed (settingsIn e p b) (givenIn e p b) (typeOf b) p (ownList b) (defaultOf e)
+  pub all-passed : Passed (askedIn e p b)
   all-passed =
       let s = block-sound b hb in
       record {
@@ -138,8 +132,8 @@ module _ (e : List ℕ) (p : Optional) (b : List ℕ) (h : ruleOk (ruleOf e) ≡
         kinds = types-good b;
       }
 
-  pub computed-refused : computed e p b ≡ none → TooLong (resultIn e p b)
+  pub computed-refused : computed e p b ≡ none → TooLong (resultOf access (askedIn e p b))
   unfolding computed
   computed-refused q =
-      let w = passed-room (settingsIn e p b) (givenIn e p b) (typeOf b) p (ownList b) (defaultOf e) 1024 all-passed in
-      refused-long (bytesFor (resultIn e p b)) (resultIn e p b) (ap (λ (a : Computed). taken a (bytesFor (resultIn e p b))) (sym w) ∙ q)
+      let w = passed-room (askedIn e p b) 1024 all-passed in
+      refused-long (bytesFor (resultOf access (askedIn e p b))) (resultOf access (askedIn e p b)) (ap (λ (a : Values). taken a (bytesFor (resultOf access (askedIn e p b)))) (sym w) ∙ q)

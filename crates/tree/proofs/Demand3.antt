@@ -1,292 +1,320 @@
--- Demand 3, for every sequence of calls on a started tree. After any mixture of changes, undos and refused calls: the room is well formed; every object's own
--- data is what a replay of the accepted changes not since undone gives; every computed list is the one worked out afresh from the root (Replay's fromRoot, up
--- the parents); as many steps are kept as document 01 says; the next call is accepted exactly where the past says so, and where it is refused no byte
--- changes; undo answers 11 exactly where no kept step is left, else it is done.
--- Besides, for any well-formed room, reached by calls or not: a call leaves it well formed, and an accepted one leaves every list fresh.
+-- Demand 3. For any start that is accepted and any calls that follow, in any order, refused ones, reading ones and further starts among them: the room shows
+-- what the model says of those calls, and each call answers what the model answers.
 use mathlib.Core.Path.{_≡_, refl, sym, ap, _∙_, subst}
-use mathlib.Core.Bool.{Bool, true, false, _&&_}
-use mathlib.Core.List.{List, [], _∷_, _++_, append-assoc}
+use mathlib.Core.Bool.{Bool, true, false, cond, _&&_}
+use mathlib.Core.List.{List, [], _∷_, map}
 use mathlib.Core.Option.{Option, none, some}
-use Prim.Native.Nat.{ℕ, zero, suc, _+_, _*_, _≤_, _<_}
+use Prim.Native.Nat.{ℕ, zero, suc, _≤_, _<_}
 use native.Mathlib.Omega.{arith}
-use lib.ListN.{length, getD, drop, replicate, length-append, length-drop, length-replicate}
-use lib.Seq.{take-at}
-use lib.Dec.{leb}
-use borrow.Author.Tests.{leb-true, lt-ltb}
-use Rattle.list.specs.Bytes.{front, part}
+use lib.ListN.{length}
+use lib.Dec.{eqb, leb}
+use Rattle.list.specs.Order.{need}
+use Rattle.list.specs.Bytes.{front}
+use Rattle.list.specs.Answer.{Values, done, refused}
 use Rattle.list.proofs.Tests.{both-true, off}
-use Rattle.inherit.specs.declared.Mapping.{Mapping}
-use Rattle.inherit.specs.Given.{Optional, absent}
+use Rattle.inherit.specs.Asked.{MaybeList}
 use Rattle.inherit.specs.Compute.{ruleOk}
+use Rattle.tree.specs.declared.Answer.{Answer}
 use Rattle.tree.specs.declared.Answer.the-variants.{Done, Refused}
-use Rattle.tree.specs.Held.{held, ownList}
-use Rattle.tree.specs.Room.{limit, depth, objects, kept, roomFor, limitsOk, settings, settingsFor, own, slot, area, emptyRoom}
-use Rattle.tree.specs.Formed.{stepsOk, formed}
-use Rattle.tree.specs.Calls.{Outcome, need, short, onObject, told, bytesIf, dataOf, copied, startOk, finishUndo, undone, startTo, undoTo, listTo}
-use Rattle.tree.specs.Calls.{ownTo, dataTo}
-use Rattle.tree.specs.History.{State, Call, edit, undo, Rules, settled, edited, undone as machine-undone, after, start, run, replay, afresh}
-use Rattle.tree.specs.History.{remains, accepts, isSome, orElse, positive}
-use Rattle.tree.specs.Replay.{Change, Tree, reads, when, work, rules, tab, shown}
+use Rattle.tree.specs.General.{isSome, rest, bind}
+use Rattle.tree.specs.Held.{held}
+use Rattle.tree.specs.Room.{limit, depth, objects, kept, roomFor, limitsOk, settings, settingsFor, slot, emptyRoom}
+use Rattle.tree.specs.Formed.{formed}
+use Rattle.tree.specs.Calls.{Outcome, refuse, short, startOk, startTo, undoTo, answerValues, countsTo}
+use Rattle.tree.specs.History.{Call as Step, edit, undo as take-back, Past, remains, next, noted, unnoted, accepts, afresh}
+use Rattle.tree.specs.Replay.{Change, add, alter, reads, rules, work, shown}
 use Rattle.tree.specs.Played.{callTo, accepted, played}
-use Rattle.tree.proofs.Tab.{length-tab, getD-tab}
-use Rattle.tree.proofs.Lays.{length-settings}
-use Rattle.tree.proofs.Settings.{settings-good}
-use Rattle.tree.proofs.Histories.{history}
-use Rattle.tree.proofs.Lawful.{lawful}
-use Rattle.tree.proofs.Keeps.{facts-formed}
+use Rattle.tree.specs.Model as Model
+use Rattle.tree.specs.Shown.{Begin, settingsIn, settingsFrom, objectsIn, changeMeant, Call, start, change, undo, read, counts, meant, startWith, changeWith, readWith, answerTo, roomAfter, playedOn}
+use Rattle.tree.proofs.Tab.{getD-tab}
+use Rattle.tree.proofs.Settings.{rule-of, mapping-of, default-of}
+use Rattle.tree.proofs.Keeps.{Formed, formed-facts}
+use Rattle.tree.proofs.Answered.{start-facts}
 use Rattle.tree.proofs.Plays.{Passes, on, stop, then, need-first, reads-first, call-ends}
+use Rattle.tree.proofs.Reaches.{Reached, Begun, begun, start-stays, reaches}
+use Rattle.tree.proofs.Likeness.{Good, objectsFrom, replay-like}
+use Rattle.tree.proofs.Modelled.{said, readable-as, test-as, short-is, objects-shown, shown-length, objects-length, lists-like, change-as}
+use Rattle.tree.proofs.Reading.{ReadAs, part-as, counts-as}
+use Rattle.tree.proofs.Numbers.{accepted-number, change-numbered, start-numbered}
 
--- ---- any well-formed room
+-- ---- a start
 
--- the machine's next state has fresh lists
-module _ {C D L U : Type 0} (R : Rules C D L U) (S : ℕ) (t t′ : State D L U) where
-  settled-fresh : (d : D) (us : List U) (w : Option L) → R .work d ≡ w → settled R S d us w ≡ some t′ → R .work (t′ .own) ≡ some (t′ .lists)
-  unfolding settled
-  settled-fresh d us none e h = let z : _≡_ {A = ℕ} 0 1 = cc in absurd (omega arith)
-  settled-fresh d us (some l) e h = let q : record { own = d; lists = l; kept = us } ≡ t′ = cc in rw (← q) e
+three-needs : (a b c : Bool) (r : List ℕ) (o : Outcome) (v : Values) → said o ≡ v
+    → said (need (a && (b && c)) (refuse 12 0 0 r) o) ≡ need a (refused 12 0 0) (need b (refused 12 0 0) (need c (refused 12 0 0) v))
+unfolding need
+three-needs true true true r o v e = e
+three-needs true true false r o v e = refl
+three-needs true false c r o v e = refl
+three-needs false b c r o v e = refl
 
-  edited-fresh : (c : C) (o : Option D) → edited R S t c o ≡ some t′ → R .work (t′ .own) ≡ some (t′ .lists)
-  unfolding edited
-  edited-fresh c none h = let z : _≡_ {A = ℕ} 0 1 = cc in absurd (omega arith)
-  edited-fresh c (some d) h = settled-fresh d _ (R .work d) refl h
+-- on any bytes, a start answers what the model answers
+pub start-as : (b : Begin) (r : List ℕ) → said (startWith b r) ≡ Model.startAnswer (settingsFrom b) (leb (roomFor (b .objects) (b .steps)) (length r))
+unfolding startTo startOk limitsOk Model.startAnswer Model.limitsOk
+start-as b r =
+    three-needs _ _ _ r _ _
+    (readable-as 3 r _ _ (b .default) (λ g.
+    test-as (short (b .default)) _ 8 r _ _ (short-is (b .default)) (λ f. refl)))
 
-  undone-fresh : (us : List U) → machine-undone R S t us ≡ some t′ → R .work (t′ .own) ≡ some (t′ .lists)
-  unfolding machine-undone
-  undone-fresh [] h = let z : _≡_ {A = ℕ} 0 1 = cc in absurd (omega arith)
-  undone-fresh (u ∷ us) h = settled-fresh _ us (R .work (R .back u (t .own))) refl h
+-- ---- what a room shows of the model's tree, and what calls on it answer
 
-  after-fresh : (q : Call C) → after R S t q ≡ some t′ → R .work (t′ .own) ≡ some (t′ .lists)
-  unfolding after
-  after-fresh (edit c) h = edited-fresh c (R .change c (t .own)) h
-  after-fresh undo h = undone-fresh (t .kept) h
+pub record Shows (r : List ℕ) (s : Model.Tree) : Type 0 where
+  pub well : formed r ≡ true
+  pub settings-are : settingsIn r ≡ s .settings
+  pub objects-are : objectsIn r ≡ Model.objectsOf s
+  pub lists-are : (i : ℕ) → i < objects r → Model.listOf (s .settings) (Model.objectsOf s) i ≡ some (held (slot i r))
+  pub kept-are : kept r ≡ s .kept
+  pub answers : (q : Call) → answerTo q r ≡ Model.answer s (meant (length r) q)
+  pub read-back : (x : Model.Part) (i : ℕ) (out : List ℕ) → readWith x i r out .bytes ≡ Model.readInto (s .settings) (Model.objectsOf s) x i out
 
-pub record Keeps (r : List ℕ) (q : Call Change) : Type 0 where
-  pub well : formed (callTo q r .bytes) ≡ true
-  pub refused-stays : accepted (callTo q r .answer) ≡ false → callTo q r .bytes ≡ r
-  pub lists-fresh : accepted (callTo q r .answer) ≡ true → work (settings r) (shown (callTo q r .bytes) .own) ≡ some (shown (callTo q r .bytes) .lists)
+-- ---- a start, and the changes and undos since
 
-pub keeps : (r : List ℕ) → formed r ≡ true → (q : Call Change) → Keeps r q
-unfolding rules
-keeps r h q =
-    let E = call-ends r h q in
-    record {
-      well = facts-formed (callTo q r .bytes) (E .well);
-      refused-stays = E .stays;
-      lists-fresh = λ a. after-fresh (rules (limit r) (settings r)) (depth r) (shown r) (shown (callTo q r .bytes)) q (E .told ∙ rw a refl);
-    }
+call-change : (c : Change) (r : List ℕ) → callTo (edit c) r ≡ changeWith c r
+unfolding callTo changeWith
+call-change (add new) r = refl
+call-change (alter i x) r = refl
 
--- ---- a started tree
+abbrev treeOf : Begin → Past Change → Model.Tree
+treeOf b p = record { settings = settingsFrom b; changes = map changeMeant (p .done); kept = p .left }
 
-module _ (n s rule : ℕ) (m : Mapping) (default : Optional) (r : List ℕ) (ok : startOk n s rule (length r) ≡ true) (good : reads default ≡ true)
-    (few : short default ≡ true) where
-  E : List ℕ
-  E = settingsFor rule m default
+rest-map : (cs : List Change) → rest (map changeMeant cs) ≡ map changeMeant (rest cs)
+unfolding rest
+rest-map [] = refl
+rest-map (c ∷ cs) = refl
 
-  first : List ℕ
-  first = front (emptyRoom n s rule m default) r
+module _ (b : Begin) (r : List ℕ) (h : accepted (startWith b r .answer) ≡ true) where
+  abbrev e : List ℕ
+  e = settingsFor (b .rule) (b .mapping) (b .default)
 
-  limits : ((1 ≤ n) × ((n ≤ 64) × (s ≤ 64))) × ((ruleOk rule ≡ true) × (roomFor n s ≤ length r))
-  unfolding startOk limitsOk
-  limits =
-      let a = both-true (limitsOk n s) (ruleOk rule && leb (roomFor n s) (length r)) ok in
-      let b = both-true (leb 1 n) (leb n 64 && leb s 64) (a .0) in
-      let c = both-true (leb n 64) (leb s 64) (b .1) in
-      let d = both-true (ruleOk rule) (leb (roomFor n s) (length r)) (a .1) in
-      ((leb-true 1 n (b .0), (leb-true n 64 (c .0), leb-true s 64 (c .1))), (d .0, leb-true (roomFor n s) (length r) (d .1)))
+  abbrev room : List (Step Change) → List ℕ
+  room qs = played qs (startWith b r .bytes)
 
-  empty-length : length (emptyRoom n s rule m default) ≡ roomFor n s
-  unfolding emptyRoom
-  empty-length = simp (length-append, length-replicate, length-settings rule m default few) (omega arith)
+  past : List (Step Change) → Past Change
+  past qs = remains (rules (b .objects) e) (b .steps) qs
 
-  first-length : length first ≡ length r
-  unfolding first
-  first-length = simp (length-append, length-drop) (omega (arith, empty-length, limits .1 .1))
+  abbrev tree : List (Step Change) → Model.Tree
+  tree qs = treeOf b (past qs)
 
-  first-limit : limit first ≡ n
-  unfolding first emptyRoom
-  first-limit = refl
+  H : (qs : List (Step Change)) → Reached (b .objects) (b .steps) e (startWith b r .bytes) qs
+  H qs = reaches (b .objects) (b .steps) (b .rule) (b .mapping) (b .default) r h qs
 
-  first-depth : depth first ≡ s
-  unfolding first emptyRoom
-  first-depth = refl
+  B : Begun (b .objects) (b .steps) (b .rule) (b .mapping) (b .default) r
+  B = begun (b .objects) (b .steps) (b .rule) (b .mapping) (b .default) r h
 
-  first-objects : objects first ≡ 0
-  unfolding first emptyRoom
-  first-objects = refl
+  F : (qs : List (Step Change)) → Formed (room qs)
+  F qs = formed-facts (room qs) (H qs .well)
 
-  first-kept : kept first ≡ 0
-  unfolding first emptyRoom
-  first-kept = refl
-
-  first-settings : settings first ≡ settingsFor rule m default
-  unfolding first emptyRoom settings part
-  first-settings =
-      let z : List ℕ = replicate (n * 2211 + s * 1186) 0 in
-      let w : List ℕ = (n ∷ s ∷ 0 ∷ 0 ∷ []) ++ (settingsFor rule m default ++ z) in
-      rw (append-assoc (settingsFor rule m default) z (drop (length w) r))
-      (take-at (settingsFor rule m default) (z ++ drop (length w) r) 1044 (length-settings rule m default few))
-
-  first-formed : formed first ≡ true
-  unfolding stepsOk
-  first-formed =
-      let l = limits in
-      facts-formed first
-      (record {
-        head =
-            record {
-              long = omega (arith, first-length, l .1 .1);
-              some-limit = omega (arith, first-limit, l .0 .0);
-              limit-64 = omega (arith, first-limit, l .0 .1 .0);
-              depth-64 = omega (arith, first-depth, l .0 .1 .1);
-              within = omega (arith, first-objects);
-              kept-within = omega (arith, first-kept);
-              room-enough = rw (first-limit, first-depth, first-length) (l .1 .1);
-            };
-        settings-ok = rw first-settings (settings-good rule m default few (l .1 .0) good);
-        owned = λ i q. absurd (omega (arith, first-objects));
-        slots = λ i q. absurd (omega (arith, first-objects));
-        steps = rw first-kept refl;
-      })
-
-  first-shown : shown first ≡ start (rules n (settingsFor rule m default)) s
-  unfolding shown tab start rules
-  first-shown = rw (first-objects, first-kept) refl
-
--- ---- every sequence of calls
-
-module _ (n s : ℕ) (e : List ℕ) where
-  record Good (r : List ℕ) (t : Tree) : Type 0 where
-    well : formed r ≡ true
-    limits-are : limit r ≡ n
-    depth-is : depth r ≡ s
-    settings-are : settings r ≡ e
-    shows : shown r ≡ t
-
-  -- one more call
-  call-by : (r r′ : List ℕ) (t : Tree) (m : Option Tree) (b : Bool) → shown r ≡ t → m ≡ when b (shown r′) → (b ≡ false → r′ ≡ r)
-      → (shown r′ ≡ orElse t m) × (b ≡ isSome m)
-  unfolding orElse isSome
-  call-by r r′ t m true e h stays = rw h (refl, refl)
-  call-by r r′ t m false e h stays = rw h (rw (stays refl) e, refl)
-
-  call-good : (r : List ℕ) (t : Tree) (q : Call Change) → Good r t
-      → Good (callTo q r .bytes) (orElse t (after (rules n e) s t q)) × (accepted (callTo q r .answer) ≡ isSome (after (rules n e) s t q))
-  call-good r t q g =
-      let X = call-ends r (g .well) q in
-      let a : after (rules n e) s t q ≡ when (accepted (callTo q r .answer)) (shown (callTo q r .bytes)) =
-      rw (← g .shows, ← g .limits-are, ← g .depth-is, ← g .settings-are) (X .told) in
-      let c = call-by r (callTo q r .bytes) t (after (rules n e) s t q) (accepted (callTo q r .answer)) (g .shows) a (X .stays) in (
-        record {
-          well = facts-formed (callTo q r .bytes) (X .well);
-          limits-are = X .limits ∙ g .limits-are;
-          depth-is = X .depths ∙ g .depth-is;
-          settings-are = X .same-settings ∙ g .settings-are;
-          shows = c .0;
-        },
-        c .1,
+  settings-as : (qs : List (Step Change)) → settingsIn (room qs) ≡ settingsFrom b
+  settings-as qs =
+      rw (
+        H qs .limit-is,
+        H qs .depth-is,
+        H qs .settings-are,
+        mapping-of (b .rule) (b .mapping) (b .default),
+        default-of (b .rule) (b .mapping) (b .default) (B .short-default),
       )
+      (rw (rule-of (b .rule) (b .mapping) (b .default)) refl)
 
-  all-good : (r : List ℕ) → Good r (start (rules n e) s) → (qs : List (Call Change)) → Good (played qs r) (run (rules n e) s qs)
-  unfolding played run
-  all-good r g [] = g
-  all-good r g (q ∷ qs) = call-good (played qs r) (run (rules n e) s qs) q (all-good r g qs) .0
+  replayed-as : (qs : List (Step Change)) → Good (shown (room qs) .own) × (objectsFrom (shown (room qs) .own) ≡ Model.objectsOf (tree qs))
+  unfolding past
+  replayed-as qs =
+      replay-like (b .objects) (b .steps) e (start-facts (b .objects) (b .steps) (b .rule) (length r) (B .in-range) .objects-64)
+      (past qs .done) (shown (room qs) .own) (H qs .data-replayed)
 
-past-undo : (n s : ℕ) (e : List ℕ) (qs : List (Call Change)) → 0 < remains (rules n e) s qs .left → accepts (rules n e) s (remains (rules n e) s qs) undo ≡ true
-unfolding accepts positive
-past-undo n s e qs h = by (remains (rules n e) s qs .left) h
-  where
-    by : (k : ℕ) → 0 < k → positive (rules n e) s k ≡ true
-    by zero q = absurd (omega arith)
-    by (suc k) q = refl
+  objects-as : (qs : List (Step Change)) → objectsIn (room qs) ≡ Model.objectsOf (tree qs)
+  objects-as qs = sym (objects-shown (room qs)) ∙ replayed-as qs .1
 
--- an undo's answer: 11 where no step is kept; done where it is accepted
-undo-11 : (r : List ℕ) → formed r ≡ true → kept r ≡ 0 → undoTo r .answer ≡ Refused 11 0 0
-unfolding undoTo need
-undo-11 r h k = rw (h, k) refl
+  work-as : (qs : List (Step Change)) → work (settings (room qs)) (shown (room qs) .own) ≡ some (shown (room qs) .lists)
+  unfolding afresh bind rules
+  work-as qs = rw (H qs .settings-are) (rw (H qs .data-replayed) at (H qs .lists-afresh))
 
-undo-0 : (r : List ℕ) → formed r ≡ true → 0 < kept r → accepted (undoTo r .answer) ≡ true → undoTo r .answer ≡ Done 0 false 0
-unfolding undoTo need finishUndo
-undo-0 r h k a = rw (h, lt-ltb 0 (kept r) k) (by (undone (area r)) (rw (h, lt-ltb 0 (kept r) k) at a))
-  where
-    by : (o : Option (List ℕ)) → accepted (finishUndo r o .answer) ≡ true → finishUndo r o .answer ≡ Done 0 false 0
-    by none b = let z : _≡_ {A = ℕ} 0 1 = cc in absurd (omega arith)
-    by (some w) b = refl
+  lists-as : (qs : List (Step Change)) (i : ℕ) → i < objects (room qs) → Model.listOf (settingsFrom b) (Model.objectsOf (tree qs)) i ≡ some (held (slot i (room qs)))
+  unfolding shown
+  lists-as qs i k =
+      rw (← settings-as qs, ← replayed-as qs .1)
+      (lists-like (room qs) (F qs) (shown (room qs) .own) (replayed-as qs .0) (shown (room qs) .lists) (work-as qs) i
+      (omega (arith, k, shown-length (room qs)))
+      ∙ ap some (getD-tab (objects (room qs)) (λ j. held (slot j (room qs))) i none k))
 
-shown-kept : (r : List ℕ) → length (shown r .kept) ≡ kept r
-unfolding shown
-shown-kept r = length-tab (kept r) _
+  -- each call's answer
+  change-said : (qs : List (Step Change)) (c : Change) → said (changeWith c (room qs)) ≡ Model.changeAnswer (settingsFrom b) (Model.objectsOf (tree qs)) (changeMeant c)
+  change-said qs c = rw (← settings-as qs, ← objects-as qs) (change-as (room qs) (F qs) c)
 
--- what is read back is what the room shows: a computed list, an own list, own data
-pub record ReadBack (r out : List ℕ) (i : ℕ) : Type 0 where
-  pub computed-list : listTo i r out ≡ copied (told (getD (shown r .lists) i absent)) (bytesIf (getD (shown r .lists) i absent)) out
-  pub own-list : ownTo i r out ≡ copied (told (ownList (getD (shown r .own) i []))) (bytesIf (ownList (getD (shown r .own) i []))) out
-  pub own-data : dataTo i r out ≡ copied (Done (length (dataOf (getD (shown r .own) i []))) true 0) (dataOf (getD (shown r .own) i [])) out
+  undo-said : (qs : List (Step Change)) → said (undoTo (room qs)) ≡ Model.undoAnswer (past qs .left)
+  unfolding past Model.undoAnswer
+  undo-said qs = by (past qs .left) refl
+    where
+      by : (k : ℕ) → past qs .left ≡ k → said (undoTo (room qs)) ≡ Model.undoAnswer k
+      by zero z = ap answerValues (H qs .undo-refused z)
+      by (suc k) z = ap answerValues (H qs .undo-done (omega arith))
 
-read-shown : (r out : List ℕ) (i : ℕ) → formed r ≡ true → i < objects r → ReadBack r out i
-unfolding listTo ownTo dataTo onObject need shown
-read-shown r out i h k =
-    let l = getD-tab (objects r) (λ j. held (slot j r)) i absent k in
-    let o = getD-tab (objects r) (λ j. own j r) i [] k in
-    let t = lt-ltb i (objects r) k in
-    record { computed-list = rw (h, t, l) refl; own-list = rw (h, t, o) refl; own-data = rw (h, t, o) refl }
+  read-said : (qs : List (Step Change)) (x : Model.Part) (i : ℕ) (out : List ℕ)
+      → ReadAs (readWith x i (room qs) out) (Model.readAnswer (settingsFrom b) (Model.objectsOf (tree qs)) x i (length out))
+      (Model.readInto (settingsFrom b) (Model.objectsOf (tree qs)) x i out)
+  read-said qs x i out =
+      rw (← objects-as qs)
+      (part-as (room qs) (F qs) (settingsFrom b) (λ j k. ap (λ (os : List Model.Object). Model.listOf (settingsFrom b) os j) (objects-as qs) ∙ lists-as qs j k) x i out)
 
--- what holds after the calls qs, the latest first, on the room r
-pub record Reached (n s : ℕ) (e r : List ℕ) (qs : List (Call Change)) : Type 0 where
-  pub well : formed (played qs r) ≡ true
-  pub data-replayed : replay (rules n e) s (remains (rules n e) s qs .done) ≡ some (shown (played qs r) .own)
-  pub lists-afresh : afresh (rules n e) s (remains (rules n e) s qs .done) ≡ some (shown (played qs r) .lists)
-  pub steps-left : kept (played qs r) ≡ remains (rules n e) s qs .left
-  pub answered : (q : Call Change) → accepted (callTo q (played qs r) .answer) ≡ accepts (rules n e) s (remains (rules n e) s qs) q
-  pub refused-stays : (q : Call Change) → accepted (callTo q (played qs r) .answer) ≡ false → callTo q (played qs r) .bytes ≡ played qs r
-  pub undo-refused : remains (rules n e) s qs .left ≡ 0 → undoTo (played qs r) .answer ≡ Refused 11 0 0
-  pub undo-done : 0 < remains (rules n e) s qs .left → undoTo (played qs r) .answer ≡ Done 0 false 0
-  pub read-back : (i : ℕ) (out : List ℕ) → i < objects (played qs r) → ReadBack (played qs r) out i
+  counts-said : (qs : List (Step Change)) → answerValues (countsTo (room qs)) ≡ done (length (Model.objectsOf (tree qs))) 1 (past qs .left) 0
+  unfolding past
+  counts-said qs = counts-as (room qs) (F qs) ∙ rw (objects-as qs, H qs .steps-left) refl
 
-module _ (n s rule : ℕ) (m : Mapping) (default : Optional) (r : List ℕ) where
-  reached : startOk n s rule (length r) ≡ true → reads default ≡ true → short default ≡ true → (qs : List (Call Change))
-      → Reached n s (settingsFor rule m default) (front (emptyRoom n s rule m default) r) qs
-  unfolding first callTo
-  reached ok good few qs =
-      let g₀ : Good n s (settingsFor rule m default) (front (emptyRoom n s rule m default) r) (start (rules n (settingsFor rule m default)) s) = record {
-        well = first-formed n s rule m default r ok good few;
-        limits-are = first-limit n s rule m default r ok good few;
-        depth-is = first-depth n s rule m default r ok good few;
-        settings-are = first-settings n s rule m default r ok good few;
-        shows = first-shown n s rule m default r ok good few;
-      } in
-      let g = all-good n s (settingsFor rule m default) (front (emptyRoom n s rule m default) r) g₀ qs in
-      let H = history (rules n (settingsFor rule m default)) (lawful n (settingsFor rule m default)) s qs in
-      let left : kept (played qs (front (emptyRoom n s rule m default) r)) ≡ remains (rules n (settingsFor rule m default)) s qs .left =
-      sym (shown-kept (played qs (front (emptyRoom n s rule m default) r))) ∙ ap (λ (t : Tree). length (t .kept)) (g .shows) ∙ H .steps-left in
-      let told : (q : Call Change) → accepted (callTo q (played qs (front (emptyRoom n s rule m default) r)) .answer)
-      ≡ accepts (rules n (settingsFor rule m default)) s (remains (rules n (settingsFor rule m default)) s qs) q =
-      λ q. call-good n s (settingsFor rule m default) _ _ q g .1 ∙ H .told q in
+  all-said : (qs : List (Step Change)) (q : Call) → answerTo q (room qs) ≡ Model.answer (tree qs) (meant (length (room qs)) q)
+  unfolding answerTo Model.answer meant
+  all-said qs (start c) = start-as c (room qs)
+  all-said qs (change c) = change-said qs c
+  all-said qs undo = undo-said qs
+  all-said qs (read x i out) = read-said qs x i out .answer-is
+  all-said qs counts = counts-said qs
+
+  shows : (qs : List (Step Change)) → Shows (room qs) (tree qs)
+  unfolding past
+  shows qs =
       record {
-        well = g .well;
-        data-replayed = rw (g .shows) (H .data-replayed);
-        lists-afresh = rw (g .shows) (H .lists-afresh);
-        steps-left = left;
-        answered = told;
-        refused-stays = λ q. call-ends _ (g .well) q .stays;
-        undo-refused = λ z. undo-11 _ (g .well) (left ∙ z);
-        undo-done = λ z. undo-0 _ (g .well) (omega (arith, left)) (told undo ∙ past-undo n s (settingsFor rule m default) qs z);
-        read-back = λ i out k. read-shown _ out i (g .well) k;
+        well = H qs .well;
+        settings-are = settings-as qs;
+        objects-are = objects-as qs;
+        lists-are = lists-as qs;
+        kept-are = H qs .steps-left;
+        answers = all-said qs;
+        read-back = λ x i out. read-said qs x i out .bytes-are;
       }
 
-  -- a start that is accepted has passed its tests
-  started : (o go : Outcome) (b : Bool) → Passes r o go b → accepted (o .answer) ≡ true → (b ≡ true) × (o ≡ go)
-  started o go true (on e) h = (refl, e)
-  started o go false (stop x) h = absurd (off h (ap (λ (y : Outcome). accepted (y .answer)) (x .is)))
+  -- one change or undo more
+  noted-as : (p : Past Change) (c : Change) (o : Option (List MaybeList))
+      → cond (isSome o) (Model.noted (treeOf b p) (changeMeant c)) (treeOf b p) ≡ treeOf b (noted (rules (b .objects) e) (b .steps) p c o)
+  unfolding noted isSome
+  noted-as p c none = refl
+  noted-as p c (some l) = refl
 
-  -- the theorem: whatever tree a start gives, and whatever calls follow
-  pub demand3 : accepted (startTo n s rule m default r .answer) ≡ true → (qs : List (Call Change))
-      → Reached n s (settingsFor rule m default) (startTo n s rule m default r .bytes) qs
-  unfolding startTo
-  demand3 h qs =
-      let go : Outcome = record { answer = Done 0 false 0; bytes = front (emptyRoom n s rule m default) r } in
-      let p = started (startTo n s rule m default r) go (startOk n s rule (length r) && (reads default && short default))
-      (then r _ _ go (startOk n s rule (length r)) _ (need-first (startOk n s rule (length r)) 12 r _)
-      (then r _ _ go (reads default) (short default) (reads-first default 3 r _) (need-first (short default) 8 r go))) h in
-      let a = both-true (startOk n s rule (length r)) (reads default && short default) (p .0) in
-      let b = both-true (reads default) (short default) (a .1) in
-      subst (λ (o : Outcome). Reached n s (settingsFor rule m default) (o .bytes) qs) (sym (p .1)) (reached (a .0) (b .0) (b .1) qs)
+  off-as : (p : Past Change) (k : ℕ) → Model.takenOff (treeOf b p) k ≡ treeOf b (unnoted (rules (b .objects) e) (b .steps) p k)
+  unfolding Model.takenOff unnoted
+  off-as p zero = refl
+  off-as p (suc k) = rw (rest-map (p .done)) refl
+
+  change-next : (qs : List (Step Change)) (c : Change) → Model.next (tree qs) (Model.change (changeMeant c)) ≡ tree (edit c ∷ qs)
+  unfolding Model.next Model.answer past remains next accepts callTo changeWith
+  change-next qs c =
+      let a : Model.accepted (Model.changeAnswer (settingsFrom b) (Model.objectsOf (tree qs)) (changeMeant c))
+      ≡ isSome (afresh (rules (b .objects) e) (b .steps) (c ∷ past qs .done)) =
+      ap Model.accepted (sym (change-said qs c)) ∙ accepted-number (changeWith c (room qs) .answer) (change-numbered c (room qs)) ∙ called c in
+      ap (λ (x : Bool). cond x (Model.noted (tree qs) (changeMeant c)) (tree qs)) a
+      ∙ noted-as (past qs) c (afresh (rules (b .objects) e) (b .steps) (c ∷ past qs .done))
+    where
+      called : (c : Change) → accepted (changeWith c (room qs) .answer) ≡ isSome (afresh (rules (b .objects) e) (b .steps) (c ∷ past qs .done))
+      called c = ap (λ (o : Outcome). accepted (o .answer)) (sym (call-change c (room qs))) ∙ H qs .answered (edit c)
+
+  undo-next : (qs : List (Step Change)) → Model.next (tree qs) Model.undo ≡ tree (take-back ∷ qs)
+  unfolding Model.next past remains next
+  undo-next qs = off-as (past qs) (past qs .left)
+
+-- ---- all calls
+
+stepMeant : Step Change → Model.Call
+stepMeant (edit c) = Model.change (changeMeant c)
+stepMeant take-back = Model.undo
+
+step-next : (b : Begin) (r : List ℕ) (h : accepted (startWith b r .answer) ≡ true) (qs : List (Step Change)) (q : Step Change)
+    → Model.next (tree b r h qs) (stepMeant q) ≡ tree b r h (q ∷ qs)
+unfolding stepMeant
+step-next b r h qs (edit c) = change-next b r h qs c
+step-next b r h qs take-back = undo-next b r h qs
+
+edit-meant : (s : Model.Tree) (c : Change) → Model.next s (stepMeant (edit c)) ≡ Model.next s (Model.change (changeMeant c))
+unfolding stepMeant
+edit-meant s c = refl
+
+undo-meant : (s : Model.Tree) → Model.next s (stepMeant take-back) ≡ Model.next s Model.undo
+unfolding stepMeant
+undo-meant s = refl
+
+call-undo : (r : List ℕ) → callTo take-back r ≡ undoTo r
+unfolding callTo
+call-undo r = refl
+
+start-said : (s : Model.Tree) (b : Begin) (r : List ℕ)
+    → said (startWith b r) ≡ Model.answer s (Model.start (settingsFrom b) (leb (roomFor (b .objects) (b .steps)) (length r)))
+unfolding Model.answer
+start-said s b r = start-as b r
+
+start-next : (s : Model.Tree) (t : Model.Settings) (enough x : Bool) → Model.accepted (Model.answer s (Model.start t enough)) ≡ x
+    → Model.next s (Model.start t enough) ≡ cond x (Model.begun t) s
+unfolding Model.next
+start-next s t enough x e = rw e refl
+
+read-next : (s : Model.Tree) (x : Model.Part) (i : ℕ) (out : List ℕ) → Model.next s (Model.read x i out) ≡ s
+unfolding Model.next
+read-next s x i out = refl
+
+counts-next : (s : Model.Tree) → Model.next s Model.counts ≡ s
+unfolding Model.next
+counts-next s = refl
+
+-- a room of `long` bytes, and the model's tree, after a start that was accepted and calls since
+record Follows (long : ℕ) (r : List ℕ) (s : Model.Tree) : Type 0 where
+  given : Begin
+  before : List ℕ
+  accepts-it : accepted (startWith given before .answer) ≡ true
+  steps : List (Step Change)
+  room-is : r ≡ room given before accepts-it steps
+  tree-is : s ≡ tree given before accepts-it steps
+  long-is : length r ≡ long
+
+follows-start : (b : Begin) (r : List ℕ) → accepted (startWith b r .answer) ≡ true → Follows (length r) (startWith b r .bytes) (Model.begun (settingsFrom b))
+unfolding played past remains
+follows-start b r h =
+    record { given = b; before = r; accepts-it = h; steps = []; room-is = refl; tree-is = refl; long-is = begun (b .objects) (b .steps) (b .rule) (b .mapping) (b .default) r h .size-is }
+
+module _ {long : ℕ} {r : List ℕ} {s : Model.Tree} (f : Follows long r s) where
+  abbrev R : List ℕ
+  R = room (f .given) (f .before) (f .accepts-it) (f .steps)
+
+  T : Shows r s
+  T =
+      subst (λ (x : List ℕ). Shows x s) (sym (f .room-is))
+      (subst (λ (x : Model.Tree). Shows R x) (sym (f .tree-is)) (shows (f .given) (f .before) (f .accepts-it) (f .steps)))
+
+  -- a change or an undo
+  follows-step : (q : Step Change) (s′ : Model.Tree) → Model.next s (stepMeant q) ≡ s′ → Follows long (callTo q r .bytes) s′
+  unfolding played
+  follows-step q s′ e =
+      record {
+        given = f .given;
+        before = f .before;
+        accepts-it = f .accepts-it;
+        steps = q ∷ f .steps;
+        room-is = ap (λ (x : List ℕ). callTo q x .bytes) (f .room-is);
+        tree-is = sym e ∙ ap (λ (x : Model.Tree). Model.next x (stepMeant q)) (f .tree-is) ∙ step-next (f .given) (f .before) (f .accepts-it) (f .steps) q;
+        long-is = call-ends r (T .well) q .size ∙ f .long-is;
+      }
+
+  -- a start, accepted or not
+  follows-begin : (b : Begin) (x : Bool) → accepted (startWith b r .answer) ≡ x
+      → Follows long (startWith b r .bytes) (cond x (Model.begun (settingsFrom b)) s)
+  follows-begin b true h = subst (λ (n : ℕ). Follows n (startWith b r .bytes) (Model.begun (settingsFrom b))) (f .long-is) (follows-start b r h)
+  follows-begin b false h =
+      subst (λ (x : List ℕ). Follows long x s) (sym (start-stays (b .objects) (b .steps) (b .rule) (b .mapping) (b .default) r h)) f
+
+  follows-call : (q : Call) → Follows long (roomAfter q r) (Model.next s (meant long q))
+  unfolding roomAfter meant
+  follows-call (start b) = follows-begin′ b
+    where
+      start-accepted : (b : Begin) → Model.accepted (Model.answer s (Model.start (settingsFrom b) (leb (roomFor (b .objects) (b .steps)) long))) ≡ accepted (startWith b r .answer)
+      start-accepted b = rw (← f .long-is) (ap Model.accepted (sym (start-said s b r)) ∙ accepted-number (startWith b r .answer) (start-numbered b r))
+
+      follows-begin′ : (b : Begin) → Follows long (startWith b r .bytes) (Model.next s (Model.start (settingsFrom b) (leb (roomFor (b .objects) (b .steps)) long)))
+      follows-begin′ b = subst (λ (x : Model.Tree). Follows long (startWith b r .bytes) x) (sym (start-next s (settingsFrom b) _ _ (start-accepted b))) (follows-begin b _ refl)
+  follows-call (change c) = subst (λ (o : Outcome). Follows long (o .bytes) (Model.next s (Model.change (changeMeant c)))) (call-change c r) (follows-step (edit c) _ (edit-meant s c))
+  follows-call undo = subst (λ (o : Outcome). Follows long (o .bytes) (Model.next s Model.undo)) (call-undo r) (follows-step take-back _ (undo-meant s))
+  follows-call (read x i out) = subst (Follows long r) (sym (read-next s x i out)) f
+  follows-call counts = subst (Follows long r) (sym (counts-next s)) f
+
+follows-all : (b : Begin) (r : List ℕ) → accepted (startWith b r .answer) ≡ true → (qs : List Call)
+    → Follows (length r) (playedOn qs (startWith b r .bytes)) (Model.after (Model.begun (settingsFrom b)) (map (meant (length r)) qs))
+unfolding playedOn Model.after
+follows-all b r h [] = follows-start b r h
+follows-all b r h (q ∷ qs) = follows-call (follows-all b r h qs) q
+
+-- the theorem
+pub demand3 : (b : Begin) (r : List ℕ) → accepted (startWith b r .answer) ≡ true → (qs : List Call)
+    → Shows (playedOn qs (startWith b r .bytes)) (Model.after (Model.begun (settingsFrom b)) (map (meant (length r)) qs))
+demand3 b r h qs = T (follows-all b r h qs)

@@ -9,7 +9,7 @@ use lib.Seq.{getD-set-same}
 use Rattle.list.specs.Bytes.{part, putAt}
 use Rattle.list.proofs.Places.{length-put, part-put-same, part-put-before, part-put-after, part-put-in, put-one, byte-same}
 use Rattle.list.proofs.Tests.{both-true}
-use Rattle.inherit.specs.Given.{Optional}
+use Rattle.inherit.specs.Asked.{MaybeList}
 use Rattle.inherit.specs.Compute.{ordinary}
 use Rattle.tree.specs.Held.{slotFor, idFor, parentOf, kindOf, markOf, typeOf, ownerOf, groupOf, ownSlot, ownList, blockOk, yes}
 use Rattle.tree.specs.Calls.{Edit, list, mark, owners, editAt, editBytes, short}
@@ -37,7 +37,7 @@ edited e b = putAt (editAt e) (editBytes e) b
 
 module _ (b : List ℕ) (n : length b ≡ 1184) where
   -- the three changes
-  list-laid : (o : Optional) → short o ≡ true → Laid (edited (list o) b) (parentOf b) (kindOf b) (markOf b) (typeOf b) (part 19 69 b) (part 88 69 b) (slotFor o)
+  list-laid : (o : MaybeList) → short o ≡ true → Laid (edited (list o) b) (parentOf b) (kindOf b) (markOf b) (typeOf b) (part 19 69 b) (part 88 69 b) (slotFor o)
   unfolding editAt editBytes
   list-laid o h =
       let x = slotFor o in
@@ -98,7 +98,7 @@ module _ (b : List ℕ) (n : length b ≡ 1184) where
       }
 
   -- what they set, and what they leave
-  pub list-shows : (o : Optional) → short o ≡ true
+  pub list-shows : (o : MaybeList) → short o ≡ true
       → Shows (edited (list o) b) (parentOf b) (kindOf b) (markOf b) (typeOf b) (ownerOf b) (groupOf b) o
   list-shows o h = laid-shows (list-laid o h) refl refl (held-slot o h)
 

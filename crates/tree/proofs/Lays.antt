@@ -2,6 +2,7 @@
 use mathlib.Core.Path.{_≡_, refl, sym, ap, _∙_}
 use mathlib.Core.List.{List, [], _∷_, _++_, append-assoc}
 use mathlib.Core.Bool.{true}
+use mathlib.Core.Option.{none, some}
 use Prim.Native.Nat.{ℕ, _+_, _-_, _/_, _%_, _≤_, _<_, min}
 use native.Mathlib.Nat.{mod-eq-of-lt, div-lt-iff-lt-mul}
 use native.Mathlib.Omega.{arith}
@@ -12,7 +13,7 @@ use Rattle.list.specs.Bytes.{putAt, spell, guidAt}
 use Rattle.list.proofs.Little.{length-spell}
 use Rattle.list.proofs.Places.{put-one, put-snoc, put-append, put-whole, length-put}
 use Rattle.inherit.specs.declared.Mapping.{Mapping}
-use Rattle.inherit.specs.Given.{Optional, absent, present}
+use Rattle.inherit.specs.Asked.{MaybeList}
 use Rattle.tree.specs.Held.{New, slotFor, idFor, blockFor, yes}
 use Rattle.tree.specs.Room.{settingsFor}
 use Rattle.tree.specs.Calls.{short}
@@ -48,14 +49,14 @@ zero-more a i l m e h =
 pub length-padded : (n : ℕ) (s : List ℕ) → length s ≤ n → length (s ++ replicate (n - length s) 0) ≡ n
 length-padded n s h = simp (length-append, length-replicate) (omega arith)
 
-pub short-present : (s : List ℕ) → short (present s) ≡ true → length s ≤ 1024
+pub short-present : (s : List ℕ) → short (some s) ≡ true → length s ≤ 1024
 unfolding short
 short-present s h = leb-true (length s) 1024 h
 
-pub length-slot : (o : Optional) → short o ≡ true → length (slotFor o) ≡ 1027
+pub length-slot : (o : MaybeList) → short o ≡ true → length (slotFor o) ≡ 1027
 unfolding slotFor
-length-slot absent h = length-replicate {A = ℕ} 1027 0
-length-slot (present s) h =
+length-slot none h = length-replicate {A = ℕ} 1027 0
+length-slot (some s) h =
     let k : length (s ++ replicate (1024 - length s) 0) ≡ 1024 = length-padded 1024 s (short-present s h) in
     omega (arith, length-append (spell 2 (length s)) (s ++ replicate (1024 - length s) 0), length-spell 2 (length s))
 
@@ -80,7 +81,7 @@ write-padded {a} {n} {b} {l} {m} j s p w h k e =
 
 pub slot-laid : (a : ℕ) (s l m : List ℕ) → length s ≤ 1024 → a + 1027 ≤ length l
     → m ≡ putAt (a + 3) s (set (set (set l a 1) (a + 1) (length s % 256)) (a + 2) (length s / 256))
-    → putAt (a + 3 + length s) (replicate (1024 - length s) 0) m ≡ putAt a (slotFor (present s)) l
+    → putAt (a + 3 + length s) (replicate (1024 - length s) 0) m ≡ putAt a (slotFor (some s)) l
 unfolding slotFor spell
 slot-laid a s l m h k e =
     let f : length s / 256 % 256 ≡ length s / 256 = mod-eq-of-lt (div-lt-iff-lt-mul {k = 256} {x = length s} {y = 256} (omega arith) .1 (omega arith)) in
@@ -133,7 +134,7 @@ module _ (new : New) (t : length (new .type) ≡ 16) (o : length (new .owner) �
       ∙ rw (ex, ey, ez, guid-whole (new .type) t)
 
 -- the settings
-module _ (rule : ℕ) (m : Mapping) (o : Optional) (s : short o ≡ true) where
+module _ (rule : ℕ) (m : Mapping) (o : MaybeList) (s : short o ≡ true) where
   pub settings-laid : (a : ℕ) (l l₁ l₂ l₃ l₄ l₅ : List ℕ) → a + 1044 ≤ length l
       → l₁ ≡ putAt (a + 1) (spell 4 (m .read)) (set l a rule)
       → l₂ ≡ putAt (a + 5) (spell 4 (m .write)) l₁

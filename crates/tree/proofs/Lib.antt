@@ -20,6 +20,12 @@ pub mod Became
 pub mod Keeps
 pub mod Machine
 pub mod Plays
+pub mod NoRoom
+pub mod Likeness
+pub mod Modelled
+pub mod Reading
+pub mod Numbers
+pub mod Reaches
 pub mod Demand3
 pub mod Worked
 pub mod Answered

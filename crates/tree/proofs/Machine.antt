@@ -11,7 +11,7 @@ use lib.Dec.{ltb}
 use borrow.Author.Tests.{lt-ltb, le-ltb}
 use Rattle.list.specs.Bytes.{putAt}
 use Rattle.list.proofs.Places.{split}
-use Rattle.inherit.specs.Given.{Optional}
+use Rattle.inherit.specs.Asked.{MaybeList}
 use Rattle.inherit.specs.Compute.{ordinary}
 use Rattle.tree.specs.Held.{New, blockFor}
 use Rattle.tree.specs.Room.{tagOf, numberOf, savedIn}
@@ -58,7 +58,7 @@ Asked N new n f =
     && (ordinary (new .group)
     && short (new .list)))))
 
-module _ (N S : ℕ) (e : List ℕ) (n : ℕ) (f : ℕ → List ℕ) (ls : List Optional) (us : List Undo) where
+module _ (N S : ℕ) (e : List ℕ) (n : ℕ) (f : ℕ → List ℕ) (ls : List MaybeList) (us : List Undo) where
   pub alter-after : (i : ℕ) (ed : Edit) → i < n → fine ed ≡ true
       → after (rules N e) S (record { own = tab n f; lists = ls; kept = us }) (edit (alter i ed))
       ≡ settled (rules N e) S (tab n (upd i (putAt (editAt ed) (editBytes ed) (f i)) f)) (take S (again i (f i) ∷ us))

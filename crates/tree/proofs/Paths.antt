@@ -11,22 +11,22 @@ use lib.Seq.{getD-at}
 use lib.Dec.{eqb, ltb}
 use borrow.Author.Tests.{eqb-true, eqb-false, lt-ltb, le-ltb}
 use Rattle.list.proofs.Places.{split}
-use Rattle.inherit.specs.Given.{Optional, absent}
+use Rattle.inherit.specs.Asked.{MaybeList}
+use Rattle.tree.specs.General.{bind}
 use Rattle.tree.specs.Held.{parentOf}
 use Rattle.tree.specs.Work.{computed}
-use Rattle.tree.specs.History.{bind}
 use Rattle.tree.specs.Replay.{Blocks, fromRoot, gather, work}
 
 -- the list of the parent that b names, among the lists so far; absent where it names none of them
-unfoldable pub parentList : List Optional → List ℕ → Optional
-parentList ls b = cond (ltb (parentOf b) (length ls)) (getD ls (parentOf b) absent) absent
+unfoldable pub parentList : List MaybeList → List ℕ → MaybeList
+parentList ls b = cond (ltb (parentOf b) (length ls)) (getD ls (parentOf b) none) none
 
 -- one list more
-abbrev pub nextList : List ℕ → List ℕ → List Optional → Option (List Optional)
+abbrev pub nextList : List ℕ → List ℕ → List MaybeList → Option (List MaybeList)
 nextList e b ls = bind (computed e (parentList ls b) b) (λ x. some (ls ++ (x ∷ [])))
 
 -- the lists of the first n objects
-unfoldable pub inOrder : List ℕ → Blocks → ℕ → Option (List Optional)
+unfoldable pub inOrder : List ℕ → Blocks → ℕ → Option (List MaybeList)
 inOrder e d zero = some []
 inOrder e d (suc n) = bind (inOrder e d n) (nextList e (getD d n []))
 
@@ -102,13 +102,13 @@ module _ (e : List ℕ) (d : Blocks) (ordered : Ordered d) where
   from-enough zero g i h k m = absurd (omega arith)
   from-enough (suc f) zero i h k m = absurd (omega arith)
   from-enough (suc f) (suc g) i h k m =
-      ap (λ (o : Option Optional). bind o (λ p. computed e p (getD d i [])))
+      ap (λ (o : Option MaybeList). bind o (λ p. computed e p (getD d i [])))
       (cond-same (eqb (parentOf (getD d i [])) 255) _ _ _
       (λ t. let q = earlier i h t in from-enough f g (parentOf (getD d i [])) (omega arith) (omega arith) (omega arith)))
 
   module _ (few : length d ≤ 64) where
     -- object n from the root, where the lists of those before it are there: from its parent's among them
-    from-lists : (f n : ℕ) (ls : List Optional) → n < f → n < length d → gather n (fromRoot e d f) ≡ some ls
+    from-lists : (f n : ℕ) (ls : List MaybeList) → n < f → n < length d → gather n (fromRoot e d f) ≡ some ls
         → fromRoot e d f n ≡ computed e (parentList ls (getD d n [])) (getD d n [])
     unfolding fromRoot parentList bind
     from-lists zero n ls h k q = absurd (omega arith)
@@ -125,8 +125,8 @@ module _ (e : List ℕ) (d : Blocks) (ordered : Ordered d) where
             let l = gather-length n (fromRoot e d (suc f)) ls q in
             let m = earlier n k t in
             let u : ltb p (length ls) ≡ true = lt-ltb p (length ls) (omega arith) in
-            let v : fromRoot e d f p ≡ some (getD ls p absent) =
-            from-enough f (suc f) p (omega arith) (omega arith) (omega arith) ∙ gather-at absent n (fromRoot e d (suc f)) ls q p m in
+            let v : fromRoot e d f p ≡ some (getD ls p none) =
+            from-enough f (suc f) p (omega arith) (omega arith) (omega arith) ∙ gather-at none n (fromRoot e d (suc f)) ls q p m in
             rw (t, u, v)
 
     -- in the order of numbers, whatever `f` from n on

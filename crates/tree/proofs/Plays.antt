@@ -18,12 +18,13 @@ use Rattle.list.specs.declared.lists.Reading.{Reading}
 use Rattle.list.specs.declared.lists.Reading.the-variants.{Done as Read, Refused as Unread}
 use Rattle.list.proofs.Places.{split, length-part, put-whole}
 use Rattle.list.proofs.Tests.{both-true}
-use Rattle.inherit.specs.Given.{Optional, absent, present}
+use Rattle.inherit.specs.Asked.{MaybeList}
 use Rattle.inherit.specs.Compute.{ordinary}
 use Rattle.tree.specs.Held.{New, held, isDone, blockFor}
 use Rattle.tree.specs.Room.{limit, depth, objects, kept, settings, own, slot, step, tagOf, numberOf, savedIn, area}
 use Rattle.tree.specs.Formed.{Head, placed, stepsOk, formed}
-use Rattle.tree.specs.Calls.{Edit, list, mark, owners, Outcome, refuse, need, onReading, readable, short, onObject, tested, told as told-in}
+use Rattle.list.specs.Order.{need}
+use Rattle.tree.specs.Calls.{Edit, list, mark, owners, Outcome, refuse, onReading, readable, short, onObject, tested, told as told-in}
 use Rattle.tree.specs.Calls.{editAt, editBytes, changed, latest, left, undone, finish, finishUndo, nobody, addTo, alterTo, undoTo}
 use Rattle.tree.specs.History.{Call, edit, undo, settled, after}
 use Rattle.tree.specs.Replay.{Change, add, alter, Undo, off, again, Tree, reads, fine, when, work, rules, tab, undoIn, shown}
@@ -51,10 +52,10 @@ pub record Ends (r : List ℕ) (o : Outcome) (m : Option Tree) : Type 0 where
   pub stays : accepted (o .answer) ≡ false → o .bytes ≡ r
 
 -- a list's answer is an acceptance
-accepted-told : (o : Optional) → accepted (told-in o) ≡ true
+pub accepted-told : (o : MaybeList) → accepted (told-in o) ≡ true
 unfolding told-in
-accepted-told absent = refl
-accepted-told (present s) = refl
+accepted-told none = refl
+accepted-told (some s) = refl
 
 -- ---- refusals
 
@@ -79,14 +80,14 @@ reading-by s which r rest (Read l n) e false h = let z : _≡_ {A = ℕ} 0 1 = c
 reading-by s which r rest (Unread k at) e true h = let z : _≡_ {A = ℕ} 0 1 = cc in absurd (omega arith)
 reading-by s which r rest (Unread k at) e false h = record { number = k; list = which; offset = at; is = refl }
 
-read-by : (o : Optional) (which : ℕ) (r : List ℕ) (rest : Outcome) (b : Bool) → reads o ≡ b
+read-by : (o : MaybeList) (which : ℕ) (r : List ℕ) (rest : Outcome) (b : Bool) → reads o ≡ b
     → cond b (readable o which r rest ≡ rest) (Refuses r (readable o which r rest))
 unfolding reads readable
-read-by absent which r rest true h = refl
-read-by absent which r rest false h = let z : _≡_ {A = ℕ} 0 1 = cc in absurd (omega arith)
-read-by (present s) which r rest b h = reading-by s which r rest (checkOf access s) refl b h
+read-by none which r rest true h = refl
+read-by none which r rest false h = let z : _≡_ {A = ℕ} 0 1 = cc in absurd (omega arith)
+read-by (some s) which r rest b h = reading-by s which r rest (checkOf access s) refl b h
 
-need-by : (t : Bool) (k : ℕ) (r : List ℕ) (rest : Outcome) (b : Bool) → t ≡ b → cond b (need t k r rest ≡ rest) (Refuses r (need t k r rest))
+need-by : (t : Bool) (k : ℕ) (r : List ℕ) (rest : Outcome) (b : Bool) → t ≡ b → cond b (need t (refuse k 0 0 r) rest ≡ rest) (Refuses r (need t (refuse k 0 0 r) rest))
 unfolding need
 need-by true k r rest true h = refl
 need-by true k r rest false h = let z : _≡_ {A = ℕ} 0 1 = cc in absurd (omega arith)
@@ -106,19 +107,19 @@ pub then : (r : List ℕ) (o p rest : Outcome) (a b : Bool) → Passes r o p a �
 then r o p rest true b (on e) q = subst (λ (x : Outcome). Passes r x rest b) (sym e) q
 then r o p rest false b (stop x) q = stop x
 
-pub reads-first : (o : Optional) (which : ℕ) (r : List ℕ) (rest : Outcome) → Passes r (readable o which r rest) rest (reads o)
+pub reads-first : (o : MaybeList) (which : ℕ) (r : List ℕ) (rest : Outcome) → Passes r (readable o which r rest) rest (reads o)
 reads-first o which r rest = as-passes r (readable o which r rest) rest (reads o) (read-by o which r rest (reads o) refl)
 
-pub need-first : (t : Bool) (k : ℕ) (r : List ℕ) (rest : Outcome) → Passes r (need t k r rest) rest t
-need-first t k r rest = as-passes r (need t k r rest) rest t (need-by t k r rest t refl)
+pub need-first : (t : Bool) (k : ℕ) (r : List ℕ) (rest : Outcome) → Passes r (need t (refuse k 0 0 r) rest) rest t
+need-first t k r rest = as-passes r (need t (refuse k 0 0 r) rest) rest t (need-by t k r rest t refl)
 
 -- what an alteration is given
-tested-first : (e : Edit) (r : List ℕ) (rest : Outcome) → Passes r (tested e r rest) rest (fine e)
+pub tested-first : (e : Edit) (r : List ℕ) (rest : Outcome) → Passes r (tested e r rest) rest (fine e)
 unfolding tested fine
-tested-first (list o) r rest = then r _ _ rest (reads o) (short o) (reads-first o 2 r (need (short o) 8 r rest)) (need-first (short o) 8 r rest)
+tested-first (list o) r rest = then r _ _ rest (reads o) (short o) (reads-first o 2 r (need (short o) (refuse 8 0 0 r) rest)) (need-first (short o) 8 r rest)
 tested-first (mark m) r rest = on refl
 tested-first (owners o g) r rest =
-    then r _ _ rest (ordinary o) (ordinary g) (need-first (ordinary o) 6 r (need (ordinary g) 6 r rest)) (need-first (ordinary g) 6 r rest)
+    then r _ _ rest (ordinary o) (ordinary g) (need-first (ordinary o) 6 r (need (ordinary g) (refuse 6 0 0 r) rest)) (need-first (ordinary g) 6 r rest)
 
 -- ---- what a step holds
 
@@ -207,12 +208,12 @@ module _ (r : List ℕ) (F : Formed r) where
       × ((depth (front w r) ≡ depth r)
       × ((settings (front w r) ≡ settings r) × ((length (front w r) ≡ length r) × (m ≡ some (shown (front w r)))))))
 
-  settled-none : (R : Option (List Optional)) (n : ℕ) (f : ℕ → List ℕ) (us : List Undo) → R ≡ none
+  settled-none : (R : Option (List MaybeList)) (n : ℕ) (f : ℕ → List ℕ) (us : List Undo) → R ≡ none
       → settled (rules (limit r) (settings r)) (depth r) (tab n f) us R ≡ none
   unfolding settled
   settled-none R n f us e = rw e refl
 
-  settled-some : (R : Option (List Optional)) (n : ℕ) (f : ℕ → List ℕ) (us : List Undo) (ls : List Optional) → R ≡ some ls
+  settled-some : (R : Option (List MaybeList)) (n : ℕ) (f : ℕ → List ℕ) (us : List Undo) (ls : List MaybeList) → R ≡ some ls
       → settled (rules (limit r) (settings r)) (depth r) (tab n f) us R ≡ some (record { own = tab n f; lists = ls; kept = us })
   unfolding settled
   settled-some R n f us ls e = rw e refl

@@ -10,11 +10,11 @@ use lib.ListN.{length}
 use borrow.Author.Tests.{lt-ltb, le-ltb}
 use Rattle.list.specs.Bytes.{part, putAt}
 use Rattle.list.proofs.Places.{split, length-put, part-put-same, part-put-before, part-put-after}
-use Rattle.inherit.specs.Given.{Optional, absent}
+use Rattle.inherit.specs.Asked.{MaybeList}
+use Rattle.tree.specs.General.{bind}
 use Rattle.tree.specs.Held.{held, slotFor, slotOk, parentOf}
 use Rattle.tree.specs.Room.{ownAt, slotAt, settings, own, slot}
 use Rattle.tree.specs.Work.{computed, above, laid, rework, reworked}
-use Rattle.tree.specs.History.{bind}
 use Rattle.tree.specs.Replay.{tab}
 use Rattle.tree.proofs.Computed.{computed-length, computed-held, computed-slot}
 use Rattle.tree.proofs.Tab.{length-tab, getD-tab, tab-ext}
@@ -52,7 +52,7 @@ above-list n w =
     let l = length-tab n (λ i. held (slot i w)) in
     split n p
     (λ h. rw (l, le-ltb p n h))
-    (λ h. rw (l, lt-ltb p n h, getD-tab n (λ i. held (slot i w)) p absent h))
+    (λ h. rw (l, lt-ltb p n h, getD-tab n (λ i. held (slot i w)) p none h))
 
 -- a slot put: a part that holds nothing of it stays
 slot-apart : (i a k : ℕ) (b w : List ℕ) → length b ≡ 1027 → slotAt i + 1027 ≤ length w → (a + k ≤ slotAt i) ⊎ (slotAt i + 1027 ≤ a)
@@ -71,7 +71,7 @@ module _ (n : ℕ) (w w₁ : List ℕ) (k : Worked n w w₁) where
   own-stays i = k .rest (ownAt i) 1184 (λ j h. split i j (λ q. inl (omega arith)) (λ q. inr (omega arith)))
 
   -- one turn of the order
-  turn : (x : Option Optional) → computed (settings w₁) (above n w₁) (own n w₁) ≡ x
+  turn : (x : Option MaybeList) → computed (settings w₁) (above n w₁) (own n w₁) ≡ x
       → inOrder (settings w) (tab (suc n) (λ i. own i w)) (suc n) ≡ bind x (λ o. some (tab n (λ i. held (slot i w₁)) ++ (o ∷ [])))
   unfolding bind
   turn x e =
@@ -81,7 +81,7 @@ module _ (n : ℕ) (w w₁ : List ℕ) (k : Worked n w w₁) where
 
 -- what is to be known of computed lists
 after-one : (n : ℕ) (w : List ℕ) → ownAt (suc n) ≤ length w → (w₁ : List ℕ) → Worked n w w₁
-    → (x : Option Optional) → computed (settings w₁) (above n w₁) (own n w₁) ≡ x → Linked (suc n) w (laid n w₁ x)
+    → (x : Option MaybeList) → computed (settings w₁) (above n w₁) (own n w₁) ≡ x → Linked (suc n) w (laid n w₁ x)
 unfolding laid bind slot tab
 after-one n w h w₁ k none e = turn n w w₁ k none e
 after-one n w h w₁ k (some o) e =
@@ -96,8 +96,8 @@ after-one n w h w₁ k (some o) e =
     tab-ext n (λ i. held (slot i w₁)) (λ i. held (slot i w₂)) (λ i q. ap held (sym (there i q))) in
     record {
       lists = turn n w w₁ k (some o) e
-          ∙ ap (λ (x : List Optional). some (x ++ (o ∷ []))) ls
-          ∙ ap (λ (x : Optional). some (tab n (λ i. held (slot i w₂)) ++ (x ∷ []))) (sym (ap held here ∙ computed-held _ _ _ o e));
+          ∙ ap (λ (x : List MaybeList). some (x ++ (o ∷ []))) ls
+          ∙ ap (λ (x : MaybeList). some (tab n (λ i. held (slot i w₂)) ++ (x ∷ []))) (sym (ap held here ∙ computed-held _ _ _ o e));
       size = length-put (slotAt n) b w₁ (omega arith) ∙ l;
       rest = λ a m c. slot-apart n a m b w₁ lb room (c n (omega arith)) ∙ k .rest a m (λ i q. c i (omega arith));
       slots = λ i q.

@@ -2,6 +2,7 @@
 use mathlib.Core.Path.{_≡_, refl, sym, ap, _∙_}
 use mathlib.Core.Bool.{Bool, true, false, _&&_}
 use mathlib.Core.List.{List, _++_}
+use mathlib.Core.Option.{none, some}
 use Prim.Native.Nat.{ℕ, zero, suc, _-_, _≤_, _<_}
 use native.Mathlib.Omega.{arith}
 use lib.ListN.{length, getD, take, drop, replicate}
@@ -15,7 +16,7 @@ use Rattle.list.specs.List.{checkOf}
 use Rattle.list.proofs.Little.{le-append, le-spell, length-spell}
 use Rattle.list.proofs.Sids.{identity-zero, one-sid, sid-most}
 use Rattle.list.proofs.Tests.{both-true}
-use Rattle.inherit.specs.Given.{Optional, absent, present, lent}
+use Rattle.inherit.specs.Asked.{MaybeList, lent}
 use Rattle.inherit.specs.Compute.{ordinary}
 use Rattle.tree.specs.Held.{hasList, bytesIn, held, slotFor, isDone, slotOk, idIn, idFor, idOk}
 use Rattle.tree.specs.Calls.{short}
@@ -29,7 +30,7 @@ front-of s n z e = ap (take (length s)) (take-all n (s ++ replicate z 0) (omega 
 
 -- ---- a slot
 
-zeros-absent : (n : ℕ) → 0 < n → held (replicate n 0) ≡ absent
+zeros-absent : (n : ℕ) → 0 < n → held (replicate n 0) ≡ none
 zeros-absent zero h = absurd (omega arith)
 zeros-absent (suc n) h = refl
 
@@ -38,42 +39,42 @@ unfolding slotOk
 zeros-good zero h = absurd (omega arith)
 zeros-good (suc n) h = refl
 
-zeros-slot : slotOk (slotFor absent) ≡ true
+zeros-slot : slotOk (slotFor none) ≡ true
 unfolding slotFor
 zeros-slot = zeros-good 1027 (omega arith)
 
 -- its first byte, its length and its bytes
-slot-tag : (s : List ℕ) → getD (slotFor (present s)) 0 0 ≡ 1
+slot-tag : (s : List ℕ) → getD (slotFor (some s)) 0 0 ≡ 1
 unfolding slotFor
 slot-tag s = refl
 
 module _ (s : List ℕ) (h : length s ≤ 1024) where
-  slot-size : le 2 (drop 1 (slotFor (present s))) ≡ length s
+  slot-size : le 2 (drop 1 (slotFor (some s))) ≡ length s
   unfolding slotFor
   slot-size =
       let k : 2 ≤ length (spell 2 (length s)) = rw length-spell (omega arith) in
       le-append 2 (spell 2 (length s)) (s ++ replicate (1024 - length s) 0) k ∙ le-spell 2 (length s) (omega arith)
 
-  slot-bytes : bytesIn (slotFor (present s)) ≡ s
+  slot-bytes : bytesIn (slotFor (some s)) ≡ s
   unfolding bytesIn slotFor spell part
-  slot-bytes = ap (λ (n : ℕ). part 0 n (part 3 1024 (slotFor (present s)))) slot-size ∙ front-of s 1024 (1024 - length s) (length-padded 1024 s h)
+  slot-bytes = ap (λ (n : ℕ). part 0 n (part 3 1024 (slotFor (some s)))) slot-size ∙ front-of s 1024 (1024 - length s) (length-padded 1024 s h)
 
-pub held-slot : (o : Optional) → short o ≡ true → held (slotFor o) ≡ o
+pub held-slot : (o : MaybeList) → short o ≡ true → held (slotFor o) ≡ o
 unfolding slotFor short
-held-slot absent h = zeros-absent 1027 (omega arith)
-held-slot (present s) h = ap present (slot-bytes s (leb-true (length s) 1024 h))
+held-slot none h = zeros-absent 1027 (omega arith)
+held-slot (some s) h = ap some (slot-bytes s (leb-true (length s) 1024 h))
 
 -- the test of one that holds a list
 tagged : (s : List ℕ) → getD s 0 0 ≡ 1 → slotOk s ≡ (leb (le 2 (drop 1 s)) 1024 && isDone (checkOf access (bytesIn s)))
 unfolding slotOk
 tagged s e = rw e
 
-pub slot-good : (o : Optional) → short o ≡ true → reads o ≡ true → slotOk (slotFor o) ≡ true
+pub slot-good : (o : MaybeList) → short o ≡ true → reads o ≡ true → slotOk (slotFor o) ≡ true
 unfolding short reads
-slot-good absent h r = zeros-slot
-slot-good (present s) h r =
+slot-good none h r = zeros-slot
+slot-good (some s) h r =
     let m = leb-true (length s) 1024 h in
-    tagged (slotFor (present s)) (slot-tag s) ∙ rw (slot-size s m, slot-bytes s m, h) r
+    tagged (slotFor (some s)) (slot-tag s) ∙ rw (slot-size s m, slot-bytes s m, h) r
 
 -- what a good slot holds reads as done
 pub slot-reads : (s : List ℕ) → slotOk s ≡ true → reads (held s) ≡ true

@@ -12,9 +12,10 @@ use borrow.Author.Tests.{leb-true, le-leb, not-true, not-false}
 use Rattle.list.specs.Bytes.{le, part}
 use Rattle.list.proofs.Places.{part-most}
 use Rattle.list.proofs.Tests.{both-true, false-or}
+use Rattle.tree.specs.General.{every}
 use Rattle.tree.specs.Held.{bytesIn}
 use Rattle.tree.specs.Room.{limit, objects, kept, settings, own, step, tagOf}
-use Rattle.tree.specs.Formed.{every, headOk, Head, settingsOk, objectOk, stepOk, standing, stepsOk, formed}
+use Rattle.tree.specs.Formed.{headOk, Head, settingsOk, objectOk, stepOk, standing, stepsOk, formed}
 
 -- ---- a callee's answer, tested by `!`
 

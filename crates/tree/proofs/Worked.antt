@@ -3,25 +3,26 @@
 use mathlib.Core.Path.{_≡_, refl}
 use mathlib.Core.Bool.{true, false}
 use mathlib.Core.List.{List, [], _∷_, flatten}
-use mathlib.Core.Option.{some}
+use mathlib.Core.Option.{some, none}
 use Prim.Native.Nat.{ℕ, _+_, _*_, _≤_}
 use native.Mathlib.Omega.{arith}
 use lib.ListN.{replicate}
+use Rattle.list.specs.Order.{need}
 use Rattle.list.specs.Bytes.{le, spell, sameBytes, guidAt, part}
 use Rattle.list.specs.Identity.{sidLen, isSid, placeholderOf, identityOf}
-use Rattle.list.specs.Entry.{plainOf, objectOf, objectKind, kindOk, flagsOk, headOf, wordAfter, entryBytes, tailOk, need, entryOf}
+use Rattle.list.specs.Entry.{plainOf, objectOf, objectKind, kindOk, flagsOk, headOf, wordAfter, entryBytes, tailOk, entryOf}
 use Rattle.list.specs.List.{revOk, headerOk, cut, entriesOf, headBytes, render, onGood, walkOf, finish, checkOf}
-use Rattle.inherit.specs.Given.{Optional, absent, present, entriesIf, typesOk, typesOf}
-use Rattle.inherit.specs.Copies.{anyHeritable, among, typeApplies, pass, kept, takesFirst, firstPart, takesSecond, secondPart, fromParent, own, fromCreator}
+use Rattle.inherit.specs.Asked.{MaybeList, entriesIf, typesOk, typesOf}
+use Rattle.inherit.specs.Copies.{anyHeritable, among, typeApplies, pass, keptFlags, takesFirst, firstPart, takesSecond, secondPart, fromParent, ownEntries, fromCreator}
 use Rattle.inherit.specs.Last.{inPlace, mapped, resolved, lastOf, lastStep}
 use Rattle.inherit.specs.Branch.{inheritedBit, withCreator, fromDefault, branch, resultOf}
-use Rattle.inherit.specs.Compute.{anyObject, withRoom, need as needed, onReading, readable, ruleOk, computeOf, bytesFor}
+use Rattle.inherit.specs.Compute.{anyObject, withRoom, onReading, readable, ruleOk, computeOf, bytesFor}
 use Rattle.inherit.proofs.Worked.{mapping, system, parentWith, inherited, listed}
+use Rattle.tree.specs.General.{bind}
 use Rattle.tree.specs.Held.{New, bytesIn, idIn, idFor, slotFor, blockFor}
 use Rattle.tree.specs.Room.{limitsOk, roomFor, roomOf, settingsFor}
 use Rattle.tree.specs.Formed.{formed, headOk}
 use Rattle.tree.specs.Work.{computed}
-use Rattle.tree.specs.History.{bind}
 use Rattle.tree.specs.Replay.{fromRoot, gather, work}
 
 -- ---- what a computation of a tree opens, layer by layer: to unfold a name here is to unfold what its line names
@@ -39,7 +40,7 @@ unfolding revOk headerOk cut entriesOf headBytes render onGood walkOf finish che
 lists-open = tt
 
 unfoldable pub copies-open : Unit {0}
-unfolding anyHeritable among typeApplies pass kept takesFirst firstPart takesSecond secondPart fromParent own fromCreator
+unfolding anyHeritable among typeApplies pass keptFlags takesFirst firstPart takesSecond secondPart fromParent ownEntries fromCreator
 copies-open = tt
 
 unfoldable pub last-open : Unit {0}
@@ -47,7 +48,7 @@ unfolding inPlace mapped resolved lastOf lastStep inheritedBit withCreator fromD
 last-open = tt
 
 unfoldable pub compute-open : Unit {0}
-unfolding anyObject withRoom needed onReading readable ruleOk computeOf bytesFor
+unfolding anyObject withRoom onReading readable ruleOk computeOf bytesFor
 compute-open = tt
 
 unfoldable pub tree-open : Unit {0}
@@ -71,17 +72,17 @@ nothing = refl
 
 -- ---- the tree of document 01's script
 
-abbrev container : ℕ → Optional → New
+abbrev container : ℕ → MaybeList → New
 container parent list =
     record { parent = parent; container = true; mark = false; type = replicate 16 0; owner = system; group = system; list = list }
 
 abbrev script : List ℕ
-script = settingsFor 2 mapping absent
+script = settingsFor 2 mapping none
 
 -- 28 bytes with one entry for the root, 48 with two for the container below it
-abbrev pub lists : List Optional
-lists = present (listed 0x1C 1 (inherited 0x03 ∷ [])) ∷ present (listed 0x30 2 (inherited 0x10 ∷ inherited 0x1B ∷ [])) ∷ []
+abbrev pub lists : List MaybeList
+lists = some (listed 0x1C 1 (inherited 0x03 ∷ [])) ∷ some (listed 0x30 2 (inherited 0x10 ∷ inherited 0x1B ∷ [])) ∷ []
 
-pub script-tree : work script (blockFor (container 0xFFFFFFFF (present (parentWith 0x03))) ∷ blockFor (container 0 absent) ∷ []) ≡ some lists
+pub script-tree : work script (blockFor (container 0xFFFFFFFF (some (parentWith 0x03))) ∷ blockFor (container 0 none) ∷ []) ≡ some lists
 unfolding bytes-open entries-open lists-open copies-open last-open compute-open tree-open
 script-tree = refl

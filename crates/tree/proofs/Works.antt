@@ -1,6 +1,6 @@
 -- Working one object's list out, and those of all, as the code goes about it.
-use mathlib.Core.Path.{_≡_, refl, sym, ap, _∙_}
-use mathlib.Core.Bool.{Bool, true, false}
+use mathlib.Core.Path.{_≡_, refl, sym, ap, ap₂, subst, _∙_}
+use mathlib.Core.Bool.{Bool, true, false, not}
 use mathlib.Core.List.{List, []}
 use mathlib.Core.Option.{Option, none, some}
 use Prim.Native.Nat.{ℕ, zero, suc, _+_, _-_, _≤_, _<_}
@@ -10,30 +10,28 @@ use native.Mathlib.Omega.{arith}
 use lib.ListN.{length, drop}
 use lib.Seq.{take-at}
 use lib.Dec.{eqb}
-use borrow.Author.Tests.{lt-ltb, le-ltb}
+use borrow.Author.Tests.{lt-ltb, le-ltb, not-true}
 use Rattle.list.specs.Bytes.{le, part, putAt}
 use Rattle.inherit.specs.declared.Settings.{Settings}
 use Rattle.inherit.specs.declared.Mapping.{Mapping}
 use Rattle.inherit.specs.declared.Computed.{Computed}
 use Rattle.inherit.specs.declared.Computed.the-variants.{Present, Absent, Refused}
 use Rattle.list.specs.Entry.{access}
-use Rattle.inherit.specs.Given.{Given, Optional, absent, present, lent}
-use Rattle.inherit.specs.Branch.{Result, resultOf}
-use Rattle.inherit.specs.Compute.{computeOf, bytesFor, outBy, answerFor, outFor, resultFor}
+use Rattle.list.specs.Answer.{Values, done, refused}
+use Rattle.inherit.specs.Asked.{Asked, MaybeList, given, lent}
+use Rattle.inherit.specs.Branch.{resultOf}
+use Rattle.inherit.specs.Compute.{computeOf, bytesFor, written, outOf, computedValues, isRefusal, askedBy, Answers}
+use Rattle.inherit.proofs.Planned.{given-lent}
 use Rattle.inherit.proofs.Theorems.{present-fits}
+use Rattle.tree.specs.General.{bind, isSome, orElse}
 use Rattle.tree.specs.Held.{hasList, bytesIn, held, slotFor, kindOf, markOf, typeOf, ownerOf, groupOf, ownSlot, ownList, parentOf}
 use Rattle.tree.specs.Room.{slotAt, settings, ruleOf, defaultSlot, defaultOf, mappingOf, own, slot}
-use Rattle.tree.specs.Work.{given, settingsIn, givenIn, answerIn, resultIn, computed, above, laid, rework, reworked}
-use Rattle.tree.specs.History.{bind, isSome, orElse}
-
-pub given-lent : (b : Bool) (s : List ℕ) → given (lent b s) ≡ b
-given-lent true s = refl
-given-lent false s = refl
+use Rattle.tree.specs.Work.{askedIn, computed, above, laid, rework, reworked}
 
 -- the settings as the code finds them in slots and own data
 pub settings-found : (e p b : List ℕ) (x y z k m : Bool) → x ≡ hasList p → y ≡ hasList (ownSlot b) → z ≡ hasList (defaultSlot e) → k ≡ eqb (kindOf b) 1
     → m ≡ eqb (markOf b) 1
-    → _≡_ {A = Settings} (record { parent = x; creator = y; default = z; container = k; auto = true; defaulted = false; protect = m }) (settingsIn e (held p) b)
+    → _≡_ {A = Settings} (record { parent = x; creator = y; default = z; container = k; auto = true; defaulted = false; protect = m }) (record { parent = given (held p); creator = given (ownList b); default = given (defaultOf e); container = eqb (kindOf b) 1; auto = true; defaulted = false; protect = eqb (markOf b) 1 })
 settings-found e p b x y z k m ex ey ez ek em =
     rw (
       ex,
@@ -58,55 +56,36 @@ lent-held true s = refl
 lent-held false s = refl
 
 module _ (e p b : List ℕ) where
-  S : Settings
-  S = settingsIn e (held p) b
+  abbrev set : Settings
+  set =
+      record {
+        parent = given (held p);
+        creator = given (ownList b);
+        default = given (defaultOf e);
+        container = eqb (kindOf b) 1;
+        auto = true;
+        defaulted = false;
+        protect = eqb (markOf b) 1;
+      }
 
-  G : Given
-  G = givenIn e (held p) b
-
-  qp : lent (given (held p)) (bytesIn p) ≡ held p
-  qp = lent-held (hasList p) (bytesIn p)
-
-  qc : lent (given (ownList b)) (bytesIn (ownSlot b)) ≡ ownList b
-  qc = lent-held (hasList (ownSlot b)) (bytesIn (ownSlot b))
-
-  qd : lent (given (defaultOf e)) (bytesIn (defaultSlot e)) ≡ defaultOf e
-  qd = lent-held (hasList (defaultSlot e)) (bytesIn (defaultSlot e))
-
-  answer-held : (room : ℕ)
-      → answerFor (ruleOf e) (settingsIn e (held p) b) (mappingOf e) (bytesIn p) (bytesIn (ownSlot b)) (bytesIn (defaultSlot e))
-      (typeOf b) (ownerOf b) (groupOf b) room
-      ≡ answerIn e (held p) b room
-  unfolding S G
-  answer-held room =
-      ap (λ (x : Optional). computeOf S G (typeOf b) x (lent (given (ownList b)) (bytesIn (ownSlot b)))
-      (lent (given (defaultOf e)) (bytesIn (defaultSlot e))) room) qp
-      ∙ ap (λ (x : Optional). computeOf S G (typeOf b) (held p) x (lent (given (defaultOf e)) (bytesIn (defaultSlot e))) room) qc
-      ∙ ap (λ (x : Optional). computeOf S G (typeOf b) (held p) (ownList b) x room) qd
-
-  result-held : resultFor (ruleOf e) (settingsIn e (held p) b) (mappingOf e) (bytesIn p) (bytesIn (ownSlot b)) (bytesIn (defaultSlot e)) (typeOf b)
-      (ownerOf b) (groupOf b)
-      ≡ resultIn e (held p) b
-  unfolding S G
-  result-held =
-      ap (λ (x : Optional). resultOf access S G x (lent (given (ownList b)) (bytesIn (ownSlot b))) (lent (given (defaultOf e)) (bytesIn (defaultSlot e)))) qp
-      ∙ ap (λ (x : Optional). resultOf access S G (held p) x (lent (given (defaultOf e)) (bytesIn (defaultSlot e)))) qc
-      ∙ ap (λ (x : Optional). resultOf access S G (held p) (ownList b) x) qd
+  asked-held : askedBy (ruleOf e) set (mappingOf e) (bytesIn p) (bytesIn (ownSlot b)) (bytesIn (defaultSlot e)) (typeOf b) (ownerOf b) (groupOf b)
+      ≡ askedIn e (held p) b
+  asked-held =
+      rw (
+        lent-held (hasList p) (bytesIn p),
+        lent-held (hasList (ownSlot b)) (bytesIn (ownSlot b)),
+        lent-held (hasList (defaultSlot e)) (bytesIn (defaultSlot e)),
+      )
+      refl
 
   -- the computation called with what lies in the slots and in own data
   pub compute-found : (rule : ℕ) (s : Settings) (m : Mapping) (P C D types owner group out out₁ : List ℕ) (r : Computed)
-      → rule ≡ ruleOf e → s ≡ settingsIn e (held p) b → m ≡ mappingOf e → P ≡ bytesIn p → C ≡ bytesIn (ownSlot b) → D ≡ bytesIn (defaultSlot e)
+      → rule ≡ ruleOf e → s ≡ set → m ≡ mappingOf e → P ≡ bytesIn p → C ≡ bytesIn (ownSlot b) → D ≡ bytesIn (defaultSlot e)
       → types ≡ typeOf b → owner ≡ ownerOf b → group ≡ groupOf b
-      → r ≡ answerFor rule s m P C D types owner group (length out) → out₁ ≡ outFor rule s m P C D types owner group out
-      → (r ≡ answerIn e (held p) b (length out)) × (out₁ ≡ outBy r (bytesFor (resultIn e (held p) b)) out)
-  compute-found rule s m P C D types owner group out out₁ r er es em ep ec ed et eo eg h f =
-      let a : answerFor rule s m P C D types owner group (length out) ≡ answerIn e (held p) b (length out) =
-      rw (er, es, em, ep, ec, ed, et, eo, eg) (answer-held (length out)) in
-      let y : resultFor rule s m P C D types owner group ≡ resultIn e (held p) b = rw (er, es, em, ep, ec, ed, et, eo, eg) result-held in (
-        h ∙ a,
-        f ∙ ap (λ (x : Computed). outBy x (bytesFor (resultFor rule s m P C D types owner group)) out) (sym h)
-            ∙ ap (λ (x : Result). outBy r (bytesFor x) out) y,
-      )
+      → Answers (askedBy rule s m P C D types owner group) out r out₁ → Answers (askedIn e (held p) b) out r out₁
+  compute-found rule s m P C D types owner group out out₁ r er es em ep ec ed et eo eg h =
+      let q : askedBy rule s m P C D types owner group ≡ askedIn e (held p) b = rw (er, es, em, ep, ec, ed, et, eo, eg) asked-held in
+      subst (λ (a : Asked). Answers a out r out₁) q h
 
 -- the parent's slot, or nothing
 pub above-slot : (i p : ℕ) (r s : List ℕ) → p ≡ parentOf (own i r) → p < i → s ≡ slot p r → held s ≡ above i r
@@ -118,35 +97,44 @@ unfolding above
 above-none i p r e h = rw (← e, le-ltb p i h) refl
 
 -- one object, by what the computation answers
-module _ (i : ℕ) (w out e b : List ℕ) (x : Optional) (a : Computed) (q : x ≡ above i w) (ee : e ≡ settings w) (eb : b ≡ own i w)
-    (room : length out ≡ 1024) (h : a ≡ answerIn e x b (length out)) where
-  answered : (y : Computed) → a ≡ y → answerIn (settings w) x (own i w) 1024 ≡ y
-  answered y g = rw (← room, ← ee, ← eb) (sym h ∙ g)
+module _ (i : ℕ) (w out e b : List ℕ) (x : MaybeList) (r : Computed) (out₁ : List ℕ) (q : x ≡ above i w) (ee : e ≡ settings w) (eb : b ≡ own i w)
+    (room : length out ≡ 1024) (h : Answers (askedIn e x b) out r out₁) where
+  abbrev asked : Asked
+  asked = askedIn (settings w) (above i w) (own i w)
 
-  left-out : (out₁ : List ℕ) (y : Computed) → a ≡ y → out₁ ≡ outBy a (bytesFor (resultIn e x b)) out
-      → out₁ ≡ outBy y (bytesFor (resultIn (settings w) x (own i w))) out
-  left-out out₁ y g f = rw (← ee, ← eb, ← g) f
+  asked-is : askedIn e x b ≡ asked
+  asked-is = rw (q, ee, eb) refl
 
-  pub rework-present : (l n k : ℕ) (out₁ w₁ : List ℕ) → a ≡ Present l n k → out₁ ≡ outBy a (bytesFor (resultIn e x b)) out
-      → w₁ ≡ putAt (slotAt i) (slotFor (present (part 0 l out₁))) w
+  answered : (v : Values) → computedValues r ≡ v → computeOf asked 1024 ≡ v
+  answered v g = ap₂ computeOf (sym asked-is) (sym room) ∙ sym (h .answer .values) ∙ g
+
+  -- a list
+  pub rework-present : (l n k : ℕ) (w₁ : List ℕ) → r ≡ Present l n k → w₁ ≡ putAt (slotAt i) (slotFor (some (part 0 l out₁))) w
       → (true ≡ isSome (rework i w)) × (w₁ ≡ orElse w (rework i w))
-  unfolding rework computed laid isSome orElse outBy part
-  rework-present l n k out₁ w₁ g f t =
-      let y : answerIn (settings w) x (own i w) 1024 ≡ Present l n k = answered (Present l n k) g in
-      let z = present-fits (settingsIn (settings w) x (own i w)) (givenIn (settings w) x (own i w)) (typeOf (own i w)) x (ownList (own i w))
-      (defaultOf (settings w)) 1024 l n k y in
-      let bytes = bytesFor (resultIn (settings w) x (own i w)) in
-      let o : out₁ ≡ outBy (Present l n k) bytes out = left-out out₁ (Present l n k) g f in
-      let u : part 0 l out₁ ≡ bytes = rw o (take-at bytes (drop (length bytes) out) l (sym (z .0))) in
-      rw (← q, y) (refl, t ∙ ap (λ (v : List ℕ). putAt (slotAt i) (slotFor (present v)) w) u)
+  unfolding rework computed laid isSome orElse written part
+  rework-present l n k w₁ g t =
+      let y : computeOf asked 1024 ≡ done l 1 n k = answered (done l 1 n k) (ap computedValues g) in
+      let z = present-fits asked 1024 (ap (λ (v : Values). v .present) y) in
+      let size : l ≡ length (bytesFor (resultOf access asked)) = ap (λ (v : Values). v .length) (sym y) ∙ z .0 in
+      let bytes = bytesFor (resultOf access asked) in
+      let o : out₁ ≡ written (done l 1 n k) bytes out =
+      h .buffer ∙ ap (λ (a : Asked). outOf a out) asked-is ∙ ap (λ (v : Values). written v bytes out) (ap (computeOf asked) room ∙ y) in
+      let u : part 0 l out₁ ≡ bytes = rw o (take-at bytes (drop (length bytes) out) l (sym size)) in
+      rw y (refl, t ∙ ap (λ (v : List ℕ). putAt (slotAt i) (slotFor (some v)) w) u)
 
-  pub rework-absent : (w₁ : List ℕ) → a ≡ Absent → w₁ ≡ putAt (slotAt i) (slotFor absent) w → (true ≡ isSome (rework i w)) × (w₁ ≡ orElse w (rework i w))
+  -- no list
+  pub rework-absent : (w₁ : List ℕ) → r ≡ Absent → w₁ ≡ putAt (slotAt i) (slotFor none) w → (true ≡ isSome (rework i w)) × (w₁ ≡ orElse w (rework i w))
   unfolding rework computed laid isSome orElse
-  rework-absent w₁ g t = rw (← q, answered Absent g) (refl, t)
+  rework-absent w₁ g t = rw (answered (done 0 0 0 0) (ap computedValues g)) (refl, t)
 
-  pub rework-refused : (l n k : ℕ) → a ≡ Refused l n k → (false ≡ isSome (rework i w)) × (w ≡ orElse w (rework i w))
+  -- a refusal: its number isn't 0
+  pub rework-refused : (l n k : ℕ) → r ≡ Refused l n k → (false ≡ isSome (rework i w)) × (w ≡ orElse w (rework i w))
   unfolding rework computed laid isSome orElse
-  rework-refused l n k g = rw (← q, answered (Refused l n k) g) (refl, refl)
+  rework-refused l n k g =
+      let y = answered (refused l n k) (ap computedValues g) in
+      let b : true ≡ not (eqb l 0) =
+      ap isRefusal (sym g) ∙ h .answer .refuses ∙ ap (λ (v : Values). not (eqb (v .number) 0)) (ap₂ computeOf asked-is room ∙ y) in
+      rw (y, not-true (eqb l 0) (sym b)) (refl, refl)
 
 -- ---- all objects
 

@@ -5,6 +5,7 @@ use mathlib.Core.Bool.{Bool, true, false, cond, _&&_}
 use mathlib.Core.Option.{Option, none, some}
 use lib.ListN.{length, set}
 use lib.Dec.{leb, ltb}
+use Rattle.list.specs.Order.{need}
 use Rattle.list.specs.Bytes.{part, putAt, front}
 use Rattle.list.specs.Entry.{access}
 use Rattle.list.specs.List.{checkOf, countOf}
@@ -12,7 +13,7 @@ use Rattle.list.specs.Answer.{Values, done, refused}
 use Rattle.list.specs.declared.lists.Reading.{Reading}
 use Rattle.list.specs.declared.lists.Reading.the-variants.{Done as Read, Refused as Unread}
 use Rattle.inherit.specs.declared.Mapping.{Mapping}
-use Rattle.inherit.specs.Given.{Optional, absent, present}
+use Rattle.inherit.specs.Asked.{MaybeList}
 use Rattle.inherit.specs.Compute.{ordinary, ruleOk}
 use Rattle.tree.specs.declared.Answer.{Answer}
 use Rattle.tree.specs.declared.Answer.the-variants.{Done, Refused}
@@ -22,9 +23,9 @@ use Rattle.tree.specs.Formed.{placed, standing, formed}
 use Rattle.tree.specs.Work.{reworked}
 
 -- document 01's number and values for each case
-abbrev pub valuesOf : Answer → Values
-valuesOf (Done len is n) = done len (yes is) n 0
-valuesOf (Refused k which at) = refused k which at
+abbrev pub answerValues : Answer → Values
+answerValues (Done len is n) = done len (yes is) n 0
+answerValues (Refused k which at) = refused k which at
 
 -- the answer, and what the lent bytes hold afterwards
 pub record Outcome : Type 0 where
@@ -35,33 +36,28 @@ pub record Outcome : Type 0 where
 abbrev pub refuse : ℕ → ℕ → ℕ → List ℕ → Outcome
 refuse k which at r = record { answer = Refused k which at; bytes = r }
 
--- go on where the test holds, else refuse by the number
-unfoldable pub need : Bool → ℕ → List ℕ → Outcome → Outcome
-need true k r rest = rest
-need false k r rest = refuse k 0 0 r
-
 -- a list that is present reads as done, or its refusal concerns list `which`
 unfoldable pub onReading : Reading → ℕ → List ℕ → Outcome → Outcome
 onReading (Read len n) which r rest = rest
 onReading (Unread k at) which r rest = refuse k which at r
 
-unfoldable pub readable : Optional → ℕ → List ℕ → Outcome → Outcome
-readable absent which r rest = rest
-readable (present s) which r rest = onReading (checkOf access s) which r rest
+unfoldable pub readable : MaybeList → ℕ → List ℕ → Outcome → Outcome
+readable none which r rest = rest
+readable (some s) which r rest = onReading (checkOf access s) which r rest
 
 -- at most 1,024 bytes
-unfoldable pub short : Optional → Bool
-short absent = true
-short (present s) = leb (length s) 1024
+unfoldable pub short : MaybeList → Bool
+short none = true
+short (some s) = leb (length s) 1024
 
 -- a list, possibly absent, in an answer
-unfoldable pub told : Optional → Answer
-told absent = Done 0 false 0
-told (present s) = Done (length s) true (countOf s)
+unfoldable pub told : MaybeList → Answer
+told none = Done 0 false 0
+told (some s) = Done (length s) true (countOf s)
 
 -- the calls that name an object: 13, 9
 unfoldable pub onObject : List ℕ → ℕ → List ℕ → Outcome → Outcome
-onObject r i x rest = need (formed r) 13 x (need (ltb i (objects r)) 9 x rest)
+onObject r i x rest = need (formed r) (refuse 13 0 0 x) (need (ltb i (objects r)) (refuse 9 0 0 x) rest)
 
 -- ---- the steps
 
@@ -124,28 +120,28 @@ unfoldable pub startOk : ℕ → ℕ → ℕ → ℕ → Bool
 startOk n s rule room = limitsOk n s && (ruleOk rule && leb (roomFor n s) room)
 
 -- start: 12, then the default list by 1 to 5, then 8
-unfoldable pub startTo : ℕ → ℕ → ℕ → Mapping → Optional → List ℕ → Outcome
+unfoldable pub startTo : ℕ → ℕ → ℕ → Mapping → MaybeList → List ℕ → Outcome
 startTo n s rule m default r =
-    need (startOk n s rule (length r)) 12 r
+    need (startOk n s rule (length r)) (refuse 12 0 0 r)
     (readable default 3 r
-    (need (short default) 8 r
+    (need (short default) (refuse 8 0 0 r)
     (record { answer = Done 0 false 0; bytes = front (emptyRoom n s rule m default) r })))
 
 -- add: 13, 9, 10, 1 to 5, 6, 8
 unfoldable pub addTo : New → List ℕ → Outcome
 addTo new r =
-    need (formed r) 13 r
-    (need (placed nobody (λ j. own j r) (objects r) (new .parent)) 9 r
-    (need (ltb (objects r) (limit r)) 10 r
+    need (formed r) (refuse 13 0 0 r)
+    (need (placed nobody (λ j. own j r) (objects r) (new .parent)) (refuse 9 0 0 r)
+    (need (ltb (objects r) (limit r)) (refuse 10 0 0 r)
     (readable (new .list) 2 r
-    (need (ordinary (new .owner)) 6 r
-    (need (ordinary (new .group)) 6 r
-    (need (short (new .list)) 8 r
+    (need (ordinary (new .owner)) (refuse 6 0 0 r)
+    (need (ordinary (new .group)) (refuse 6 0 0 r)
+    (need (short (new .list)) (refuse 8 0 0 r)
     (changeTo 1 (objects r) 0 (blockFor new) (objects r + 1) r)))))))
 
 -- what a change alters in an object's own data: its list, its mark, or its owner and group
 pub data Edit : Type 0 where
-  list : Optional → Edit
+  list : MaybeList → Edit
   mark : Bool → Edit
   owners : List ℕ → List ℕ → Edit
 
@@ -162,9 +158,9 @@ editBytes (owners o g) = idFor o ++ idFor g
 
 -- the tests of what is given: 1 to 5, 6, 8
 unfoldable pub tested : Edit → List ℕ → Outcome → Outcome
-tested (list o) r rest = readable o 2 r (need (short o) 8 r rest)
+tested (list o) r rest = readable o 2 r (need (short o) (refuse 8 0 0 r) rest)
 tested (mark m) r rest = rest
-tested (owners o g) r rest = need (ordinary o) 6 r (need (ordinary g) 6 r rest)
+tested (owners o g) r rest = need (ordinary o) (refuse 6 0 0 r) (need (ordinary g) (refuse 6 0 0 r) rest)
 
 -- any other change: 13, 9, 1 to 5, 6, 8
 unfoldable pub alterTo : ℕ → Edit → List ℕ → Outcome
@@ -172,18 +168,18 @@ alterTo i e r = onObject r i r (tested e r (changeTo 2 i (editAt e) (editBytes e
 
 -- undo: 13, 11, 8
 unfoldable pub undoTo : List ℕ → Outcome
-undoTo r = need (formed r) 13 r (need (ltb 0 (kept r)) 11 r (takeBackTo r))
+undoTo r = need (formed r) (refuse 13 0 0 r) (need (ltb 0 (kept r)) (refuse 11 0 0 r) (takeBackTo r))
 
 -- ---- reading back: 13, 9, 8
 
 -- an absent list has no bytes
-unfoldable pub bytesIf : Optional → List ℕ
-bytesIf absent = []
-bytesIf (present s) = s
+unfoldable pub bytesIf : MaybeList → List ℕ
+bytesIf none = []
+bytesIf (some s) = s
 
 -- bytes on the front of what is lent for them
 unfoldable pub copied : Answer → List ℕ → List ℕ → Outcome
-copied a b out = need (leb (length b) (length out)) 8 out (record { answer = a; bytes = front b out })
+copied a b out = need (leb (length b) (length out)) (refuse 8 0 0 out) (record { answer = a; bytes = front b out })
 
 -- a computed list, and an own list
 unfoldable pub listTo : ℕ → List ℕ → List ℕ → Outcome

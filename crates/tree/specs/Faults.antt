@@ -2,12 +2,13 @@
 use Prim.Native.Nat.{ℕ}
 use mathlib.Core.List.{List}
 use mathlib.Core.Bool.{cond}
+use mathlib.Core.Option.{none, some}
 use lib.Dec.{ltb}
 use Rattle.list.specs.Entry.{access}
 use Rattle.list.specs.List.{checkOf}
 use Rattle.list.specs.declared.lists.Reading.{Reading}
 use Rattle.list.specs.declared.lists.Reading.the-variants.{Done as Read, Refused as Unread}
-use Rattle.inherit.specs.Given.{Optional, absent, present}
+use Rattle.inherit.specs.Asked.{MaybeList}
 use Rattle.tree.specs.declared.tests.Fault.{Fault}
 use Rattle.tree.specs.Room.{limit, objects, own}
 use Rattle.tree.specs.Formed.{placed, formed}
@@ -26,6 +27,6 @@ unfoldable pub faultBy : Reading → Fault
 faultBy (Read len n) = record { number = 0; offset = 0 }
 faultBy (Unread k at) = record { number = k; offset = at }
 
-unfoldable pub faultOf : Optional → Fault
-faultOf absent = record { number = 0; offset = 0 }
-faultOf (present s) = faultBy (checkOf access s)
+unfoldable pub faultOf : MaybeList → Fault
+faultOf none = record { number = 0; offset = 0 }
+faultOf (some s) = faultBy (checkOf access s)

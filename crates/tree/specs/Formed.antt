@@ -5,13 +5,9 @@ use mathlib.Core.Bool.{Bool, true, cond, _&&_}
 use lib.ListN.{length}
 use lib.Dec.{eqb, leb, ltb}
 use Rattle.inherit.specs.Compute.{ruleOk}
+use Rattle.tree.specs.General.{every}
 use Rattle.tree.specs.Held.{slotOk, blockOk, alike, parentOf, kindOf}
 use Rattle.tree.specs.Room.{limit, depth, objects, kept, roomFor, settings, ruleOf, defaultSlot, own, slot, step, tagOf, numberOf, savedIn}
-
--- a test of each number below n
-unfoldable pub every : (ℕ → Bool) → ℕ → Bool
-every t zero = true
-every t (suc n) = every t n && t n
 
 -- limits and counts in their ranges, and room enough
 unfoldable pub headOk : List ℕ → Bool

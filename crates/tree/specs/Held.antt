@@ -2,6 +2,7 @@
 use Prim.Native.Nat.{ℕ, _-_, min}
 use mathlib.Core.List.{List, [], _∷_, _++_}
 use mathlib.Core.Bool.{Bool, true, false, cond, _&&_, _||_}
+use mathlib.Core.Option.{none, some}
 use lib.ListN.{length, getD, drop, replicate}
 use lib.Dec.{eqb, leb}
 use Rattle.list.specs.Bytes.{le, spell, part, sameBytes, guidAt}
@@ -9,7 +10,7 @@ use Rattle.list.specs.Entry.{access}
 use Rattle.list.specs.List.{checkOf}
 use Rattle.list.specs.declared.lists.Reading.{Reading}
 use Rattle.list.specs.declared.lists.Reading.the-variants.{Done, Refused}
-use Rattle.inherit.specs.Given.{Optional, absent, present, lent}
+use Rattle.inherit.specs.Asked.{MaybeList, lent}
 use Rattle.inherit.specs.Compute.{ordinary}
 
 -- ---- a slot, 1,027 bytes: 1 present or 0 absent, 16-bit length, 1,024 bytes with the list
@@ -22,13 +23,13 @@ unfoldable pub bytesIn : List ℕ → List ℕ
 bytesIn s = part 0 (le 2 (drop 1 s)) (part 3 1024 s)
 
 -- the list that a slot holds, possibly absent
-abbrev pub held : List ℕ → Optional
+abbrev pub held : List ℕ → MaybeList
 held s = lent (hasList s) (bytesIn s)
 
 -- the slot of a list of at most 1,024 bytes, or of none
-unfoldable pub slotFor : Optional → List ℕ
-slotFor absent = replicate 1027 0
-slotFor (present s) = 1 ∷ (spell 2 (length s) ++ (s ++ replicate (1024 - length s) 0))
+unfoldable pub slotFor : MaybeList → List ℕ
+slotFor none = replicate 1027 0
+slotFor (some s) = 1 ∷ (spell 2 (length s) ++ (s ++ replicate (1024 - length s) 0))
 
 -- a list reads as done
 abbrev pub isDone : Reading → Bool
@@ -74,7 +75,7 @@ groupOf b = idIn (part 88 69 b)
 abbrev pub ownSlot : List ℕ → List ℕ
 ownSlot b = part 157 1027 b
 
-abbrev pub ownList : List ℕ → Optional
+abbrev pub ownList : List ℕ → MaybeList
 ownList b = held (ownSlot b)
 
 -- good by itself
@@ -98,7 +99,7 @@ pub record New : Type 0 where
   pub type : List ℕ
   pub owner : List ℕ
   pub group : List ℕ
-  pub list : Optional
+  pub list : MaybeList
 
 -- a byte for yes or no
 abbrev pub yes : Bool → ℕ

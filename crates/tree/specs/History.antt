@@ -6,20 +6,7 @@ use mathlib.Core.Option.{Option, none, some}
 use mathlib.Core.Bool.{Bool, true, false}
 use mathlib.Core.List.{List, [], _∷_}
 use lib.ListN.{take}
-
--- go on with what is there
-unfoldable pub bind : {A B : Type 0} → Option A → (A → Option B) → Option B
-bind none f = none
-bind (some a) f = f a
-
-unfoldable pub isSome : {A : Type 0} → Option A → Bool
-isSome none = false
-isSome (some a) = true
-
--- what is there, else a
-unfoldable pub orElse : {A : Type 0} → A → Option A → A
-orElse a none = a
-orElse a (some b) = b
+use Rattle.tree.specs.General.{bind, isSome, orElse, rest}
 
 -- a change, or an undo
 pub data Call (C : Type 0) : Type 0 where
@@ -51,10 +38,6 @@ pub record State (D L U : Type 0) : Type 0 where
 pub record Past (C : Type 0) : Type 0 where
   pub done : List C
   pub left : ℕ
-
-unfoldable pub rest : {A : Type 0} → List A → List A
-rest [] = []
-rest (x ∷ xs) = xs
 
 module _ {C D L U : Type 0} (R : Rules C D L U) (S : ℕ) where
   -- ---- the machine: what a call makes of a state; none is a refusal

@@ -1,3 +1,5 @@
+pub mod General
+pub mod Model
 pub mod Held
 pub mod Room
 pub mod Formed
@@ -7,3 +9,4 @@ pub mod Faults
 pub mod History
 pub mod Replay
 pub mod Played
+pub mod Shown

@@ -8,15 +8,16 @@ use lib.Dec.{eqb, ltb}
 use Rattle.list.specs.Bytes.{putAt}
 use Rattle.list.specs.Entry.{access}
 use Rattle.list.specs.List.{checkOf}
-use Rattle.inherit.specs.Given.{Optional, absent, present}
+use Rattle.inherit.specs.Asked.{MaybeList}
 use Rattle.inherit.specs.Compute.{ordinary}
+use Rattle.tree.specs.General.{bind}
 use Rattle.tree.specs.Held.{New, isDone, blockFor, parentOf}
 use Rattle.tree.specs.Room.{objects, kept, limit, own, slot, step, tagOf, numberOf, savedIn}
 use Rattle.tree.specs.Formed.{placed}
 use Rattle.tree.specs.Work.{computed}
 use Rattle.tree.specs.Calls.{Edit, list, mark, owners, short, editAt, editBytes, nobody}
 use Rattle.tree.specs.Held.{held}
-use Rattle.tree.specs.History.{Rules, State, bind}
+use Rattle.tree.specs.History.{Rules, State}
 
 -- own data of all objects, by number
 abbrev pub Blocks : Type 0
@@ -28,9 +29,9 @@ pub data Change : Type 0 where
   alter : ℕ → Edit → Change
 
 -- a list that is given, possibly absent, reads as done
-unfoldable pub reads : Optional → Bool
-reads absent = true
-reads (present s) = isDone (checkOf access s)
+unfoldable pub reads : MaybeList → Bool
+reads none = true
+reads (some s) = isDone (checkOf access s)
 
 -- what a change is given is good
 unfoldable pub fine : Edit → Bool
@@ -69,10 +70,10 @@ back off d = take (length d - 1) d
 back (again i b) d = set d i b
 
 -- object i's list worked out afresh: from its parent's list, and so on up to the root, over at most `more` objects
-unfoldable pub fromRoot : List ℕ → Blocks → ℕ → ℕ → Option Optional
+unfoldable pub fromRoot : List ℕ → Blocks → ℕ → ℕ → Option MaybeList
 fromRoot e d zero i = none
 fromRoot e d (suc more) i =
-    bind (cond (eqb (parentOf (getD d i [])) 255) (some absent) (fromRoot e d more (parentOf (getD d i []))))
+    bind (cond (eqb (parentOf (getD d i [])) 255) (some none) (fromRoot e d more (parentOf (getD d i []))))
     (λ p. computed e p (getD d i []))
 
 -- f 0, f 1 and so on below n, where all of them are there
@@ -81,11 +82,11 @@ gather zero f = some []
 gather (suc n) f = bind (gather n f) (λ xs. bind (f n) (λ x. some (xs ++ (x ∷ []))))
 
 -- every object's list worked out afresh from the root
-unfoldable pub work : List ℕ → Blocks → Option (List Optional)
+unfoldable pub work : List ℕ → Blocks → Option (List MaybeList)
 work e d = gather (length d) (fromRoot e d (length d))
 
 -- the rules of a tree with object limit n and the settings e
-unfoldable pub rules : ℕ → List ℕ → Rules Change Blocks (List Optional) Undo
+unfoldable pub rules : ℕ → List ℕ → Rules Change Blocks (List MaybeList) Undo
 rules n e = record { empty = []; bare = []; change = change n; work = work e; keep = keep; back = back }
 
 -- ---- the tree that a room shows
@@ -100,7 +101,7 @@ unfoldable pub undoIn : List ℕ → Undo
 undoIn u = cond (eqb (tagOf u) 1) off (again (numberOf u) (savedIn u))
 
 abbrev pub Tree : Type 0
-Tree = State Blocks (List Optional) Undo
+Tree = State Blocks (List MaybeList) Undo
 
 -- own data, computed lists and kept steps, read off the bytes
 unfoldable pub shown : List ℕ → Tree

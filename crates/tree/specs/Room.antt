@@ -5,7 +5,7 @@ use mathlib.Core.Bool.{Bool, cond, _&&_}
 use lib.ListN.{getD, take, drop, replicate}
 use lib.Dec.{leb}
 use Rattle.list.specs.Bytes.{le, spell, part}
-use Rattle.inherit.specs.Given.{Optional}
+use Rattle.inherit.specs.Asked.{MaybeList}
 use Rattle.inherit.specs.declared.Mapping.{Mapping}
 use Rattle.tree.specs.Held.{held, slotFor}
 
@@ -57,11 +57,11 @@ mappingOf e = record { read = le 4 (drop 1 e); write = le 4 (drop 5 e); execute 
 abbrev pub defaultSlot : List ℕ → List ℕ
 defaultSlot e = part 17 1027 e
 
-abbrev pub defaultOf : List ℕ → Optional
+abbrev pub defaultOf : List ℕ → MaybeList
 defaultOf e = held (defaultSlot e)
 
 -- the settings of a tree that is started
-unfoldable pub settingsFor : ℕ → Mapping → Optional → List ℕ
+unfoldable pub settingsFor : ℕ → Mapping → MaybeList → List ℕ
 settingsFor rule m default =
     (rule ∷ [])
     ++ (spell 4 (m .read) ++ (spell 4 (m .write) ++ (spell 4 (m .execute) ++ (spell 4 (m .all) ++ slotFor default))))
@@ -91,5 +91,5 @@ abbrev pub area : List ℕ → List ℕ
 area r = take (roomFor (limit r) (depth r)) r
 
 -- an empty tree
-unfoldable pub emptyRoom : ℕ → ℕ → ℕ → Mapping → Optional → List ℕ
+unfoldable pub emptyRoom : ℕ → ℕ → ℕ → Mapping → MaybeList → List ℕ
 emptyRoom n s rule m default = (n ∷ s ∷ 0 ∷ 0 ∷ []) ++ (settingsFor rule m default ++ replicate (n * 2211 + s * 1186) 0)

@@ -2,8 +2,9 @@
 ghost use mathlib.Core.Path.{_≡_};
 ghost use Prim.Native.Nat.{_<_};
 ghost use Rattle.inherit.specs.Compute.{ruleOk};
+ghost use Rattle.tree.specs.General.{every};
 ghost use Rattle.tree.specs.Room.{own as Room·own, step as Room·step};
-ghost use Rattle.tree.specs.Formed.{headOk, settingsOk, placed as Formed·placed, objectOk, every, againOk, stepOk, standing as Formed·standing, stepsOk, formed as Formed·formed};
+ghost use Rattle.tree.specs.Formed.{headOk, settingsOk, placed as Formed·placed, objectOk, againOk, stepOk, standing as Formed·standing, stepsOk, formed as Formed·formed};
 use crate::held::alike;
 use crate::held::block_ok;
 use crate::held::number_in;

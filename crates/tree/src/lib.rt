@@ -4,7 +4,7 @@ ghost use mathlib.Core.Bool.{true, false};
 ghost use Prim.Native.Nat.{_≤_};
 ghost use lib.ListN.{length};
 ghost use Rattle.list.specs.Bytes.{front};
-ghost use Rattle.inherit.specs.Given.{lent};
+ghost use Rattle.inherit.specs.Asked.{lent};
 ghost use Rattle.tree.specs.Held.{held};
 ghost use Rattle.tree.specs.Room.{roomFor, roomOf, emptyRoom};
 ghost use Rattle.tree.specs.Calls.{list as Edit·list, mark as Edit·mark, owners as Edit·owners, short as Calls·short, told as Calls·told, startOk, bytesIf, dataOf, copied, startTo, addTo, alterTo, undoTo, listTo, ownTo, dataTo, countsTo};

@@ -1,6 +1,6 @@
 // The tests of what a call is given, each with the number of its refusal.
 ghost use mathlib.Core.Path.{_≡_};
-ghost use Rattle.inherit.specs.Given.{lent};
+ghost use Rattle.inherit.specs.Asked.{lent};
 ghost use Rattle.tree.specs.Calls.{short as Calls·short};
 ghost use Rattle.tree.specs.Faults.{objectFault, addFault, faultBy, faultOf};
 use crate::Answer;

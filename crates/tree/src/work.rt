@@ -1,15 +1,17 @@
 // Works the computed lists out again, parents first.
 ghost use mathlib.Core.Path.{_≡_};
-ghost use mathlib.Core.Bool.{true};
+ghost use mathlib.Core.Bool.{true, false};
 ghost use mathlib.Core.Option.{some};
 ghost use Prim.Native.Nat.{_+_, _≤_, _<_};
 ghost use lib.ListN.{length};
-ghost use Rattle.inherit.specs.Compute.{bytesFor, outBy};
-ghost use Rattle.tree.specs.Held.{held};
-ghost use Rattle.tree.specs.Room.{ownAt, slotAt, mappingOf};
-ghost use Rattle.tree.specs.Work.{settingsIn, answerIn, resultIn, above as Work·above, rework, reworked};
+ghost use lib.Dec.{eqb};
+ghost use Rattle.inherit.specs.Asked.{given};
+ghost use Rattle.inherit.specs.Compute.{Answers};
+ghost use Rattle.tree.specs.General.{isSome, orElse};
+ghost use Rattle.tree.specs.Held.{held, kindOf, markOf, ownList};
+ghost use Rattle.tree.specs.Room.{ownAt, slotAt, mappingOf, defaultOf};
+ghost use Rattle.tree.specs.Work.{askedIn, above as Work·above, rework, reworked};
 ghost use Rattle.tree.specs.Calls.{settled};
-ghost use Rattle.tree.specs.History.{isSome, orElse};
 use crate::held::bytes_in;
 use crate::held::has_list;
 use crate::held::id_in;
@@ -41,7 +43,7 @@ fn mapping_in(e: &[u8]) -> Mapping
 
 // The settings of an object's computation: its parent's slot p, its own data b.
 fn settings_in(e: &[u8], p: &[u8], b: &[u8]) -> Settings
-    ensures { λ s. ⌜ s ≡ settingsIn (now (e .entry)) (held (now (p .entry))) (now (b .entry)) ⌝ }
+    ensures { λ s. ⌜ s ≡ record { parent = given (held (now (p .entry))); creator = given (ownList (now (b .entry))); default = given (defaultOf (now (e .entry))); container = eqb (kindOf (now (b .entry))) 1; auto = true; defaulted = false; protect = eqb (markOf (now (b .entry))) 1 } ⌝ }
 {
     Settings {
         parent: has_list(p),
@@ -56,8 +58,7 @@ fn settings_in(e: &[u8], p: &[u8], b: &[u8]) -> Settings
 
 // An object's list, on the front of out.
 fn compute_in<'a>(e: &'a [u8], p: &'a [u8], b: &'a [u8], out: &mut [u8]) -> Computed
-    ensures answer { λ r. ⌜ r ≡ answerIn (now (e .entry)) (held (now (p .entry))) (now (b .entry)) (length (now (out .entry))) ⌝ }
-    ensures result { λ r. ⌜ now (out .exit) ≡ outBy r (bytesFor (resultIn (now (e .entry)) (held (now (p .entry))) (now (b .entry)))) (now (out .entry)) ⌝ }
+    ensures { λ r. ⌜ Answers (askedIn (now (e .entry)) (held (now (p .entry))) (now (b .entry))) (now (out .entry)) r (now (out .exit)) ⌝ }
 {
     let kind = guid_at(b, 3);
     inherit::compute(

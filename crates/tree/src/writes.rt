@@ -2,10 +2,11 @@
 ghost use mathlib.Core.Path.{_≡_};
 ghost use mathlib.Core.Bool.{true};
 ghost use mathlib.Core.List.{_++_};
+ghost use mathlib.Core.Option.{some};
 ghost use Prim.Native.Nat.{_+_, _≤_, min};
 ghost use lib.ListN.{length, replicate};
 ghost use Rattle.list.specs.Bytes.{putAt, spell};
-ghost use Rattle.inherit.specs.Given.{present, lent};
+ghost use Rattle.inherit.specs.Asked.{lent};
 ghost use Rattle.tree.specs.Held.{yes, slotFor, idFor, blockFor};
 ghost use Rattle.tree.specs.Calls.{short};
 ghost use Rattle.tree.specs.Room.{settingsFor};
@@ -47,7 +48,7 @@ pub(crate) fn zero(w: &mut [u8], at: usize, n: usize)
 // The slot of a list.
 pub(crate) fn lay_list(w: &mut [u8], at: usize, s: &[u8])
     requires { ⌜ (length (now s) ≤ 1024) × (at + 1027 ≤ length (now w)) ⌝ }
-    ensures { λ _. ⌜ now (w .exit) ≡ putAt at (slotFor (present (now (s .entry)))) (now (w .entry)) ⌝ }
+    ensures { λ _. ⌜ now (w .exit) ≡ putAt at (slotFor (some (now (s .entry)))) (now (w .entry)) ⌝ }
 {
     let n = s.len();
     w[at] = 1;

@@ -2,14 +2,14 @@
 use borrow.Author.Needs.{needs}
 use mathlib.Core.Path.{_≡_, ap, _∙_}
 use Rattle.tree.specs.declared.Answer.{Answer}
-use Rattle.tree.specs.Calls.{valuesOf}
+use Rattle.tree.specs.Calls.{answerValues}
 use Rattle.capi.specs.Places.{placesOf}
 use mathlib.Core.Path.{refl}
 use mathlib.Core.Bool.{Bool}
 use mathlib.Core.List.{List}
 use Prim.Native.Nat.{ℕ}
 use denote.Ref.{now}
-use Rattle.inherit.specs.Given.{has, lent}
+use Rattle.inherit.specs.Asked.{has, lent}
 use Rattle.tree.specs.Held.{New}
 use Rattle.tree.specs.Calls.{Outcome, addTo}
 use Rattle.capi.specs.Places.{newOf}
@@ -48,7 +48,7 @@ returns c =
     let e = ap (λ (n : New). addTo n (now (a .room)))
     (traits-found (a .parent) (a .traits) _ _ _ (now (a .kind)) (now (a .owner)) (now (a .group)) (now (a .list))
     (kind .has .ensures) (mark .has2 .ensures) (k .before .has3 .ensures)) in (
-      c .put-answer .ensures ∙ ap (λ (x : Answer). placesOf (valuesOf x)) (s .0 ∙ ap (λ (o : Outcome). o .answer) e),
+      c .put-answer .ensures ∙ ap (λ (x : Answer). placesOf (answerValues x)) (s .0 ∙ ap (λ (o : Outcome). o .answer) e),
       s .1 ∙ ap (λ (o : Outcome). o .bytes) e,
     )
 

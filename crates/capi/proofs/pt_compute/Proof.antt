@@ -1,15 +1,15 @@
 -- What `inherit::compute` answers, in its places. Assumes nothing.
 use borrow.Author.Needs.{needs}
-use mathlib.Core.Path.{_≡_, sym, ap, ap₂, _∙_}
+use mathlib.Core.Path.{_≡_, sym, ap, ap₂, subst, _∙_}
 use denote.Ref.{now}
 use mathlib.Core.List.{List}
 use Prim.Native.Nat.{ℕ}
-use lib.ListN.{length}
 use Rattle.inherit.specs.declared.Settings.{Settings}
 use Rattle.inherit.specs.declared.Mapping.{Mapping}
 use Rattle.inherit.specs.declared.Computed.{Computed}
-use Rattle.inherit.specs.Compute.{valuesOf, answerFor, outFor}
-use Rattle.capi.specs.Places.{placesOf, settingsOf, mappingOf}
+use Rattle.inherit.specs.Asked.{Asked}
+use Rattle.inherit.specs.Compute.{computedValues, askedBy, Answers}
+use Rattle.capi.specs.Places.{placesOf, settingsOf, mappingOf, Computes}
 use Rattle.capi.proofs.pt_compute.Statement.{statement}
 use Rattle.capi.proofs.pt_compute.Tie as tie
 
@@ -17,38 +17,27 @@ use Rattle.capi.proofs.pt_compute.Tie as tie
 abbrev start : tie.After-compute → tie.Start
 start c = c .before .before .before .before .before .before .before .before .before .before .before
 
--- the definition's answer and buffer for the arguments as they were passed: by what settings and mapping say, and with their bits and masks
-abbrev answer-by : tie.Start → Settings → Mapping → Computed
-answer-by t s m =
+-- what the arguments as they were passed ask: by what settings and mapping say, and with their bits and masks
+abbrev asked-by : tie.Start → Settings → Mapping → Asked
+asked-by t s m =
     let a = t .args in
-    answerFor (a .rule) s m (now (a .parent)) (now (a .creator)) (now (a .default)) (now (a .types)) (now (a .owner)) (now (a .group)) (length (now (a .out)))
+    askedBy (a .rule) s m (now (a .parent)) (now (a .creator)) (now (a .default)) (now (a .types)) (now (a .owner)) (now (a .group))
 
-abbrev out-by : tie.Start → Settings → Mapping → List ℕ
-out-by t s m =
-    let a = t .args in
-    outFor (a .rule) s m (now (a .parent)) (now (a .creator)) (now (a .default)) (now (a .types)) (now (a .owner)) (now (a .group)) (now (a .out))
+abbrev asked : tie.Start → Asked
+asked t = asked-by t (settingsOf (t .args .settings)) (mappingOf (now (t .args .mapping)))
 
-abbrev answer-asked : tie.Start → Computed
-answer-asked t = answer-by t (settingsOf (t .args .settings)) (mappingOf (now (t .args .mapping)))
-
-abbrev out-asked : tie.Start → List ℕ
-out-asked t = out-by t (settingsOf (t .args .settings)) (mappingOf (now (t .args .mapping)))
-
--- the call's answer and its buffer are those
-answer-here : (c : tie.After-compute) → c .compute .result ≡ answer-asked (start c)
-answer-here c =
-    c .compute .ensures .0
-    ∙ ap₂ (answer-by (start c)) (c .before .before .settings-of .ensures) (c .before .before .before .mapping-of .ensures)
-
-out-here : (c : tie.After-compute) → c .compute .last .1 .1 .1 .1 .1 .1 .1 .1 .1 .0 ≡ out-asked (start c)
-out-here c =
-    c .compute .ensures .1
-    ∙ ap₂ (out-by (start c)) (c .before .before .settings-of .ensures) (c .before .before .before .mapping-of .ensures)
+-- the call's answer and its buffer are those of what is asked
+answers-here : (c : tie.After-compute) → Answers (asked (start c)) (now (start c .args .out)) (c .compute .result) (c .compute .last .1 .1 .1 .1 .1 .1 .1 .1 .1 .0)
+answers-here c =
+    subst (λ (a : Asked). Answers a (now (start c .args .out)) (c .compute .result) (c .compute .last .1 .1 .1 .1 .1 .1 .1 .1 .1 .0))
+    (ap₂ (asked-by (start c)) (c .before .before .settings-of .ensures) (c .before .before .before .mapping-of .ensures)) (c .compute .ensures)
 
 -- so a case of the match that puts down what was found puts down the definition's answer
-ends-here : (c : tie.After-compute) {x : Computed} {w : List ℕ} → c .compute .result ≡ x → w ≡ placesOf (valuesOf x)
-    → (w ≡ placesOf (valuesOf (answer-asked (start c)))) × (c .compute .last .1 .1 .1 .1 .1 .1 .1 .1 .1 .0 ≡ out-asked (start c))
-ends-here c e p = (p ∙ ap (λ (x : Computed). placesOf (valuesOf x)) (sym e ∙ answer-here c), out-here c)
+ends-here : (c : tie.After-compute) {x : Computed} {w : List ℕ} → c .compute .result ≡ x → w ≡ placesOf (computedValues x)
+    → Computes (asked (start c)) (now (start c .args .out)) w (c .compute .last .1 .1 .1 .1 .1 .1 .1 .1 .1 .0)
+ends-here c e p =
+    let h = answers-here c in
+    record { answer = p ∙ ap placesOf (ap computedValues (sym e) ∙ h .answer .values); buffer = h .buffer }
 
 mapping-of-requires : tie.Need-mapping-of-requires
 mapping-of-requires c κs = search needs

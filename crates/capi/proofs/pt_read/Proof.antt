@@ -1,7 +1,7 @@
 -- What `list::read` answers, in its places. Assumes nothing.
 use borrow.Author.Needs.{needs}
 use mathlib.Core.Path.{sym, ap, _∙_}
-use Rattle.list.specs.Answer.{valuesOf}
+use Rattle.list.specs.Answer.{readingValues}
 use Rattle.capi.specs.Places.{placesOf}
 use Rattle.capi.proofs.pt_read.Statement.{statement}
 use Rattle.capi.proofs.pt_read.Tie as tie
@@ -39,7 +39,7 @@ same-length c = search needs
 returns : tie.Need-returns
 returns c =
     let v = c .before .before .before .before .before .before .before .read in
-    (c .put-values .ensures ∙ ap placesOf (sym (ap valuesOf (c .before .before .before .length .given .1)) ∙ v .ensures .0), v .ensures .1)
+    (c .put-values .ensures ∙ ap placesOf (sym (ap readingValues (c .before .before .before .length .given .1)) ∙ v .ensures .0), v .ensures .1)
 
 same-length-2 : tie.Need-same-length-2
 same-length-2 c = search needs
@@ -47,7 +47,7 @@ same-length-2 c = search needs
 returns-2 : tie.Need-returns-2
 returns-2 c =
     let v = c .before .before .before .before .before .before .before .read in
-    (c .put-values2 .ensures ∙ ap placesOf (sym (ap valuesOf (c .before .before .before .number .given .1)) ∙ v .ensures .0), v .ensures .1)
+    (c .put-values2 .ensures ∙ ap placesOf (sym (ap readingValues (c .before .before .before .number .given .1)) ∙ v .ensures .0), v .ensures .1)
 
 pub pt-read-spec : {M : Type 1} → statement M
 pt-read-spec =

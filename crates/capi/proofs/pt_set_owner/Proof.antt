@@ -2,7 +2,7 @@
 use borrow.Author.Needs.{needs}
 use mathlib.Core.Path.{ap, _∙_}
 use Rattle.tree.specs.declared.Answer.{Answer}
-use Rattle.tree.specs.Calls.{valuesOf}
+use Rattle.tree.specs.Calls.{answerValues}
 use Rattle.capi.specs.Places.{placesOf}
 use Rattle.capi.proofs.pt_set_owner.Statement.{statement}
 use Rattle.capi.proofs.pt_set_owner.Tie as tie
@@ -18,7 +18,7 @@ same-length c = search needs
 
 returns : tie.Need-returns
 returns c = (
-  c .put-answer .ensures ∙ ap (λ (x : Answer). placesOf (valuesOf x)) (c .before .before .before .set-owner .ensures .0),
+  c .put-answer .ensures ∙ ap (λ (x : Answer). placesOf (answerValues x)) (c .before .before .before .set-owner .ensures .0),
   c .before .before .before .set-owner .ensures .1,
 )
 

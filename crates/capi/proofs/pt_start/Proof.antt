@@ -2,11 +2,11 @@
 use borrow.Author.Needs.{needs}
 use mathlib.Core.Path.{ap, _∙_}
 use Rattle.tree.specs.declared.Answer.{Answer}
-use Rattle.tree.specs.Calls.{valuesOf}
+use Rattle.tree.specs.Calls.{answerValues}
 use Rattle.capi.specs.Places.{placesOf}
 use denote.Ref.{now}
 use Rattle.inherit.specs.declared.Mapping.{Mapping}
-use Rattle.inherit.specs.Given.{lent}
+use Rattle.inherit.specs.Asked.{lent}
 use Rattle.tree.specs.Calls.{Outcome, startTo}
 use Rattle.capi.specs.Places.{yesOf}
 use Rattle.capi.proofs.pt_start.Statement.{statement}
@@ -32,7 +32,7 @@ returns c =
     let s = k .start .ensures in
     let e = ap (λ (n : Mapping). startTo (a .objects) (a .steps) (a .rule) n (lent (yesOf (a .given)) (now (a .default))) (now (a .room)))
     (m .mapping-of .ensures) in (
-      c .put-answer .ensures ∙ ap (λ (x : Answer). placesOf (valuesOf x)) (s .0 ∙ ap (λ (o : Outcome). o .answer) e),
+      c .put-answer .ensures ∙ ap (λ (x : Answer). placesOf (answerValues x)) (s .0 ∙ ap (λ (o : Outcome). o .answer) e),
       s .1 ∙ ap (λ (o : Outcome). o .bytes) e,
     )
 

@@ -4,7 +4,7 @@ use mathlib.Core.Path.{sym, ap, _∙_}
 use Prim.Native.Nat.{ℕ}
 use Rattle.list.specs.Answer.{done}
 use Rattle.tree.specs.declared.Answer.{Answer}
-use Rattle.tree.specs.Calls.{valuesOf}
+use Rattle.tree.specs.Calls.{answerValues}
 use Rattle.capi.specs.Places.{placesOf}
 use Rattle.capi.proofs.put_answer.Statement.{statement}
 use Rattle.capi.proofs.put_answer.Tie as tie
@@ -44,10 +44,10 @@ returns c =
     let g = c .before .before .before .before .a .given in
     c .put-values .ensures
     ∙ ap (λ (p : ℕ). placesOf (done (g .0 .0) p (g .0 .1 .1 .0) 0)) (c .before .flag .ensures)
-    ∙ ap (λ (x : Answer). placesOf (valuesOf x)) (sym (g .1))
+    ∙ ap (λ (x : Answer). placesOf (answerValues x)) (sym (g .1))
 
 returns-2 : tie.Need-returns-2
-returns-2 c = c .put-values2 .ensures ∙ ap (λ (x : Answer). placesOf (valuesOf x)) (sym (c .before .before .before .a2 .given .1))
+returns-2 c = c .put-values2 .ensures ∙ ap (λ (x : Answer). placesOf (answerValues x)) (sym (c .before .before .before .a2 .given .1))
 
 pub put-answer-spec : {M : Type 1} → statement M
 put-answer-spec =

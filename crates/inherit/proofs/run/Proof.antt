@@ -6,13 +6,15 @@ use mathlib.Core.List.{List}
 use Prim.Native.Nat.{ℕ}
 use denote.Ref.{now}
 use lib.ListN.{length}
+use Rattle.list.specs.Entry.{access}
 use Rattle.list.proofs.Sids.{Holds}
+use Rattle.inherit.specs.declared.Computed.{Computed}
 use Rattle.inherit.specs.declared.branch.Plan.{Plan}
 use Rattle.inherit.specs.declared.whole.Part.{Part}
 use Rattle.inherit.specs.declared.whole.Parts.{Parts}
-use Rattle.inherit.specs.Given.{Given}
-use Rattle.inherit.specs.Branch.{Result}
-use Rattle.inherit.specs.Compute.{withRoom, bytesFor, outBy, givenFor, resultFor}
+use Rattle.inherit.specs.Asked.{Asked, Given, givenIn}
+use Rattle.inherit.specs.Branch.{Result, resultOf}
+use Rattle.inherit.specs.Compute.{askedBy, Ends}
 use Rattle.inherit.specs.Plan.{gathered, resultBy, Ready}
 use Rattle.inherit.proofs.Runs.{partsOf, held, front-long, four-most, parent-passes, ready, run-is, given-is}
 use Rattle.inherit.proofs.run.Statement.{statement}
@@ -21,6 +23,10 @@ use Rattle.inherit.proofs.run.Tie as tie
 partsAre : {a b c x y z : Part} → a ≡ x → b ≡ y → c ≡ z
     → _≡_ {A = Parts} (record { own = a; parent = b; default = c }) (record { own = x; parent = y; default = z })
 partsAre p q r = rw (p, q, r)
+
+-- what ends a result ends the same one
+ends-of : {x y : Result} {out after : List ℕ} {r : Computed} → x ≡ y → Ends x out r after → Ends y out r after
+ends-of {out = out} {after = after} {r = r} e f = subst (λ (x : Result). Ends x out r after) e f
 
 -- the arguments' bytes
 module _ (s : tie.Start) where
@@ -42,11 +48,14 @@ module _ (s : tie.Start) where
   abbrev group : List ℕ
   group = now (s .args .group)
 
+  abbrev asked : Asked
+  asked = askedBy (s .args .rule) (s .args .settings) (s .args .mapping) parent creator default types owner group
+
   abbrev given : Given
-  given = givenFor (s .args .rule) (s .args .settings) (s .args .mapping) types owner group
+  given = givenIn asked
 
   abbrev wanted : Result
-  wanted = resultFor (s .args .rule) (s .args .settings) (s .args .mapping) parent creator default types owner group
+  wanted = resultOf access asked
 
 -- once the plan is made
 abbrev start : tie.After-plan-for → tie.Start
@@ -164,10 +173,10 @@ returns c =
     let s = start-owner ko in
     let a = s .args in
     let f = c .before .before .fill .ensures in
-    let g = given-is (a .rule) (a .settings) (a .mapping) (types s) (k4 .four-of .result) (owner s) (group s) _ _
+    let g = given-is (a .rule) (a .settings) (a .mapping) (parent s) (creator s) (default s) (types s) (k4 .four-of .result) (owner s) (group s) _ _
     (k4 .four-of .ensures) (owner-held ko .whole) (group-held kg .whole) in
     let e = parts-give (ko .before) _ g in
-    (f .answer ∙ ap (withRoom (length (now (a .out)))) e, f .bytes ∙ ap₂ (λ x y. outBy x (bytesFor y) (now (a .out))) (sym (f .answer)) e)
+    ends-of e f
 
 pub run-spec : {M : Type 1} → statement M
 run-spec =

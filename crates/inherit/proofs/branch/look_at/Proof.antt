@@ -7,7 +7,7 @@ use denote.Ref.{now}
 use Rattle.list.specs.Entry.{access, fieldsOf}
 use Rattle.list.specs.declared.entries.Entry.{Entry}
 use Rattle.list.proofs.Cases.{fields, is-good}
-use Rattle.inherit.specs.Given.{has}
+use Rattle.inherit.specs.Asked.{has}
 use Rattle.inherit.proofs.branch.look_at.Statement.{statement}
 use Rattle.inherit.proofs.branch.look_at.Tie as tie
 

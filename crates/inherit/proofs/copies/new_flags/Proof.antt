@@ -1,6 +1,6 @@
 -- Each pass has its flags. Assumes nothing.
 use borrow.Author.Needs.{needs}
-use Rattle.inherit.specs.Copies.{kept}
+use Rattle.inherit.specs.Copies.{keptFlags}
 use Rattle.inherit.specs.Emit.{flagsBy}
 use Rattle.inherit.proofs.copies.new_flags.Statement.{statement}
 use Rattle.inherit.proofs.copies.new_flags.Tie as tie
@@ -18,19 +18,19 @@ enum-told-4 : tie.Need-enum-told-4
 enum-told-4 c = search needs
 
 returns : tie.Need-returns
-unfolding flagsBy kept
+unfolding flagsBy keptFlags
 returns c = rw (c .enum-told .given .1)
 
 returns-2 : tie.Need-returns-2
-unfolding flagsBy kept
+unfolding flagsBy keptFlags
 returns-2 c = rw (c .enum-told2 .given .1)
 
 returns-3 : tie.Need-returns-3
-unfolding flagsBy kept
+unfolding flagsBy keptFlags
 returns-3 c = rw (c .enum-told3 .given .1)
 
 returns-4 : tie.Need-returns-4
-unfolding flagsBy kept
+unfolding flagsBy keptFlags
 returns-4 c = rw (c .enum-told4 .given .1)
 
 pub new-flags-spec : {M : Type 1} → statement M

@@ -3,7 +3,7 @@ use borrow.Author.Needs.{needs}
 use mathlib.Core.Path.{ap, _∙_}
 use mathlib.Core.Bool.{not, _&&_}
 use Rattle.list.specs.declared.entries.Entry.{Entry}
-use Rattle.inherit.specs.Given.{has}
+use Rattle.inherit.specs.Asked.{has}
 use Rattle.inherit.specs.Copies.{takesSecond}
 use Rattle.inherit.specs.Emit.{takesBy}
 use Rattle.inherit.proofs.copies.takes.Statement.{statement}

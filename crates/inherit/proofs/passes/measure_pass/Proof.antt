@@ -10,7 +10,7 @@ use Rattle.list.specs.Entry.{access, sizeOf}
 use Rattle.list.specs.Good.{Sound}
 use Rattle.list.proofs.Little.{le-lt, bytes-drop}
 use Rattle.inherit.specs.declared.passes.Measure.{Measure}
-use Rattle.inherit.specs.Given.{Given}
+use Rattle.inherit.specs.Asked.{Given}
 use Rattle.inherit.specs.Emit.{givenBy, emitOf, measureOf}
 use Rattle.inherit.proofs.Loops.{rest-is, next-entry, inside, Measuring, measuring-none, few, measuring-turn, measured-all}
 use Rattle.inherit.proofs.One.{emit-few}

@@ -5,7 +5,7 @@ use denote.Ref.{now}
 use lib.ListN.{length}
 use Rattle.list.specs.Entry.{access}
 use Rattle.list.specs.List.{checkOf}
-use Rattle.list.specs.Answer.{valuesOf}
+use Rattle.list.specs.Answer.{readingValues}
 use Rattle.list.specs.declared.lists.Reading.the-variants.{Done, Refused}
 use Rattle.list.proofs.Told.{told, read-refused, read-short, read-done}
 use Rattle.list.proofs.lists.read.Statement.{statement}
@@ -35,7 +35,7 @@ cast-if1 c = search needs
 returns : tie.Need-returns
 returns c =
     let h = read-short access _ _ _ _ (done-here (c .before .before)) (c .if1 .taken) in
-    (ap valuesOf (h .answer), h .index)
+    (ap readingValues (h .answer), h .index)
 
 fill-requires : tie.Need-fill-requires
 fill-requires c κs = (told access _ _ _ (done-here (c .before .before .before)) .listed, c .before .if1 .left)
@@ -43,7 +43,7 @@ fill-requires c κs = (told access _ _ _ (done-here (c .before .before .before))
 returns-2 : tie.Need-returns-2
 returns-2 c =
     let h = read-refused access _ _ _ _ (bad-here (c .before)) in
-    (ap valuesOf (h .answer), h .index)
+    (ap readingValues (h .answer), h .index)
 
 same-length : tie.Need-same-length
 same-length c = search needs
@@ -51,7 +51,7 @@ same-length c = search needs
 returns-3 : tie.Need-returns-3
 returns-3 c =
     let h = read-done access _ _ _ _ (done-here (c .before .before .before .before .before .before)) (c .before .before .before .before .if1 .left) in
-    (ap valuesOf (h .answer), c .before .before .fill .ensures ∙ h .index)
+    (ap readingValues (h .answer), c .before .before .fill .ensures ∙ h .index)
 
 pub read-spec : {M : Type 1} → statement M
 read-spec =

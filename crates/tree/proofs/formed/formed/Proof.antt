@@ -5,8 +5,9 @@ use mathlib.Core.List.{List}
 use mathlib.Core.Bool.{true}
 use Prim.Native.Nat.{ℕ}
 use denote.Ref.{now}
+use Rattle.tree.specs.General.{every}
 use Rattle.tree.specs.Room.{limit, objects, kept, settings, own, step}
-use Rattle.tree.specs.Formed.{headOk, settingsOk, objectOk, every, stepsOk, formed}
+use Rattle.tree.specs.Formed.{headOk, settingsOk, objectOk, stepsOk, formed}
 use Rattle.tree.proofs.Tested.{refused, passed}
 use Rattle.tree.proofs.formed.formed.Statement.{statement}
 use Rattle.tree.proofs.formed.formed.Tie as tie

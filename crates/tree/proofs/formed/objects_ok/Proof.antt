@@ -3,7 +3,8 @@ use native.Mathlib.Omega.{arith}
 use mathlib.Core.Path.{_≡_, refl, sym}
 use mathlib.Core.Bool.{true}
 use Prim.Native.Nat.{_≤_, _-_}
-use Rattle.tree.specs.Formed.{objectOk, every}
+use Rattle.tree.specs.General.{every}
+use Rattle.tree.specs.Formed.{objectOk}
 use Rattle.tree.proofs.Tested.{refused, passed, every-more, every-no}
 use Rattle.tree.proofs.formed.objects_ok.Statement.{statement}
 use Rattle.tree.proofs.formed.objects_ok.Tie as tie

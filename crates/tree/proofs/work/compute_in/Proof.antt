@@ -78,7 +78,7 @@ returns c =
     (rule .before .guid-at .ensures)
     (owner .id-in .ensures ∙ ap idIn (owner .before .part-of3 .ensures))
     (group .id-in2 .ensures ∙ ap idIn (group .before .part-of4 .ensures))
-    (k .ensures .0) (k .ensures .1)
+    (k .ensures)
 
 pub compute-in-spec : {M : Type 1} → statement M
 compute-in-spec =

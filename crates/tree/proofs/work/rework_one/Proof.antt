@@ -60,10 +60,9 @@ returns : tie.Need-returns
 returns c =
     let k = c .before .before .before .before .before .before .before .before .before .before .before in
     let s = k .before .before .before .before .before .before .before .before in
-    rework-present (s .args .i) (now (s .args .w)) (now (s .args .out)) _ _ _ _
+    rework-present (s .args .i) (now (s .args .w)) (now (s .args .out)) _ _ _ _ _
     (k .before .before .before .above .ensures) (k .before .before .before .before .settings .ensures) (k .before .before .own .ensures)
-    (s .pre .1 .1) (k .compute-in .ensures .0) _ _ _ _ _ (c .before .before .before .before .before .before .before .length .given .1)
-    (k .compute-in .ensures .1)
+    (s .pre .1 .1) (k .compute-in .ensures) _ _ _ _ (c .before .before .before .before .before .before .before .length .given .1)
     (c .before .before .lay-list .ensures ∙ rw (c .before .before .before .part-of .ensures))
 
 same-length-3 : tie.Need-same-length-3
@@ -77,9 +76,9 @@ unfolding slotFor
 returns-2 c =
     let k = c .before .before .before .before .before .before .before .before in
     let s = k .before .before .before .before .before .before .before .before in
-    rework-absent (s .args .i) (now (s .args .w)) (now (s .args .out)) _ _ _ _
+    rework-absent (s .args .i) (now (s .args .w)) (now (s .args .out)) _ _ _ _ _
     (k .before .before .before .above .ensures) (k .before .before .before .before .settings .ensures) (k .before .before .own .ensures)
-    (s .pre .1 .1) (k .compute-in .ensures .0) _ (c .before .before .before .before .enum-told .given .1) (c .before .before .zero .ensures)
+    (s .pre .1 .1) (k .compute-in .ensures) _ (c .before .before .before .before .enum-told .given .1) (c .before .before .zero .ensures)
 
 same-length-5 : tie.Need-same-length-5
 same-length-5 c = search needs
@@ -91,9 +90,9 @@ returns-3 : tie.Need-returns-3
 returns-3 c =
     let k = c .before .before .before .before .before in
     let s = k .before .before .before .before .before .before .before .before in
-    rework-refused (s .args .i) (now (s .args .w)) (now (s .args .out)) _ _ _ _
+    rework-refused (s .args .i) (now (s .args .w)) (now (s .args .out)) _ _ _ _ _
     (k .before .before .before .above .ensures) (k .before .before .before .before .settings .ensures) (k .before .before .own .ensures)
-    (s .pre .1 .1) (k .compute-in .ensures .0) _ _ _ (c .before .number .given .1)
+    (s .pre .1 .1) (k .compute-in .ensures) _ _ _ (c .before .number .given .1)
 
 pub rework-one-spec : {M : Type 1} → statement M
 rework-one-spec =

@@ -1,0 +1,333 @@
+-- Demand 3, for every sequence of calls on a started tree. After any mixture of changes, undos and refused calls: the room is well formed; every object's own
+-- data is what a replay of the accepted changes not since undone gives; every computed list is the one worked out afresh from the root (Replay's fromRoot, up
+-- the parents); as many steps are kept as document 01 says; the next call is accepted exactly where the past says so, and where it is refused no byte
+-- changes; undo answers 11 exactly where no kept step is left, else it is done.
+-- Besides, for any well-formed room, reached by calls or not: a call leaves it well formed, and an accepted one leaves every list fresh.
+use mathlib.Core.Path.{_≡_, refl, sym, ap, _∙_, subst}
+use mathlib.Core.Bool.{Bool, true, false, _&&_}
+use mathlib.Core.List.{List, [], _∷_, _++_, append-assoc}
+use mathlib.Core.Option.{Option, none, some}
+use Prim.Native.Nat.{ℕ, zero, suc, _+_, _*_, _≤_, _<_}
+use native.Mathlib.Omega.{arith}
+use lib.ListN.{length, getD, drop, replicate, length-append, length-drop, length-replicate}
+use lib.Seq.{take-at}
+use lib.Dec.{leb}
+use borrow.Author.Tests.{leb-true, lt-ltb}
+use Rattle.list.specs.Bytes.{front, part}
+use Rattle.list.proofs.Tests.{both-true, off}
+use Rattle.inherit.specs.declared.Mapping.{Mapping}
+use Rattle.inherit.specs.Asked.{MaybeList}
+use Rattle.inherit.specs.Compute.{ruleOk}
+use Rattle.tree.specs.General.{isSome, orElse}
+use Rattle.tree.specs.declared.Answer.the-variants.{Done, Refused}
+use Rattle.tree.specs.Held.{held, ownList}
+use Rattle.tree.specs.Room.{limit, depth, objects, kept, roomFor, limitsOk, settings, settingsFor, own, slot, area, emptyRoom}
+use Rattle.tree.specs.Formed.{stepsOk, formed}
+use Rattle.list.specs.Order.{need}
+use Rattle.tree.specs.Calls.{Outcome, short, onObject, told, bytesIf, dataOf, copied, startOk, finishUndo, undone, startTo, undoTo, listTo}
+use Rattle.tree.specs.Calls.{ownTo, dataTo}
+use Rattle.tree.specs.History.{State, Call, edit, undo, Rules, settled, edited, undone as machine-undone, after, start, run, replay, afresh}
+use Rattle.tree.specs.History.{remains, accepts, positive}
+use Rattle.tree.specs.Replay.{Change, Tree, reads, when, work, rules, tab, shown}
+use Rattle.tree.specs.Played.{callTo, accepted, played}
+use Rattle.tree.proofs.Tab.{length-tab, getD-tab}
+use Rattle.tree.proofs.Lays.{length-settings}
+use Rattle.tree.proofs.Settings.{settings-good}
+use Rattle.tree.proofs.Histories.{history}
+use Rattle.tree.proofs.Lawful.{lawful}
+use Rattle.tree.proofs.Keeps.{facts-formed}
+use Rattle.tree.proofs.Plays.{Passes, on, stop, then, need-first, reads-first, call-ends}
+
+-- ---- any well-formed room
+
+-- the machine's next state has fresh lists
+module _ {C D L U : Type 0} (R : Rules C D L U) (S : ℕ) (t t′ : State D L U) where
+  settled-fresh : (d : D) (us : List U) (w : Option L) → R .work d ≡ w → settled R S d us w ≡ some t′ → R .work (t′ .own) ≡ some (t′ .lists)
+  unfolding settled
+  settled-fresh d us none e h = let z : _≡_ {A = ℕ} 0 1 = cc in absurd (omega arith)
+  settled-fresh d us (some l) e h = let q : record { own = d; lists = l; kept = us } ≡ t′ = cc in rw (← q) e
+
+  edited-fresh : (c : C) (o : Option D) → edited R S t c o ≡ some t′ → R .work (t′ .own) ≡ some (t′ .lists)
+  unfolding edited
+  edited-fresh c none h = let z : _≡_ {A = ℕ} 0 1 = cc in absurd (omega arith)
+  edited-fresh c (some d) h = settled-fresh d _ (R .work d) refl h
+
+  undone-fresh : (us : List U) → machine-undone R S t us ≡ some t′ → R .work (t′ .own) ≡ some (t′ .lists)
+  unfolding machine-undone
+  undone-fresh [] h = let z : _≡_ {A = ℕ} 0 1 = cc in absurd (omega arith)
+  undone-fresh (u ∷ us) h = settled-fresh _ us (R .work (R .back u (t .own))) refl h
+
+  after-fresh : (q : Call C) → after R S t q ≡ some t′ → R .work (t′ .own) ≡ some (t′ .lists)
+  unfolding after
+  after-fresh (edit c) h = edited-fresh c (R .change c (t .own)) h
+  after-fresh undo h = undone-fresh (t .kept) h
+
+pub record Keeps (r : List ℕ) (q : Call Change) : Type 0 where
+  pub well : formed (callTo q r .bytes) ≡ true
+  pub refused-stays : accepted (callTo q r .answer) ≡ false → callTo q r .bytes ≡ r
+  pub lists-fresh : accepted (callTo q r .answer) ≡ true → work (settings r) (shown (callTo q r .bytes) .own) ≡ some (shown (callTo q r .bytes) .lists)
+
+pub keeps : (r : List ℕ) → formed r ≡ true → (q : Call Change) → Keeps r q
+unfolding rules
+keeps r h q =
+    let E = call-ends r h q in
+    record {
+      well = facts-formed (callTo q r .bytes) (E .well);
+      refused-stays = E .stays;
+      lists-fresh = λ a. after-fresh (rules (limit r) (settings r)) (depth r) (shown r) (shown (callTo q r .bytes)) q (E .told ∙ rw a refl);
+    }
+
+-- ---- a started tree
+
+module _ (n s rule : ℕ) (m : Mapping) (default : MaybeList) (r : List ℕ) (ok : startOk n s rule (length r) ≡ true) (good : reads default ≡ true)
+    (few : short default ≡ true) where
+  E : List ℕ
+  E = settingsFor rule m default
+
+  first : List ℕ
+  first = front (emptyRoom n s rule m default) r
+
+  limits : ((1 ≤ n) × ((n ≤ 64) × (s ≤ 64))) × ((ruleOk rule ≡ true) × (roomFor n s ≤ length r))
+  unfolding startOk limitsOk
+  limits =
+      let a = both-true (limitsOk n s) (ruleOk rule && leb (roomFor n s) (length r)) ok in
+      let b = both-true (leb 1 n) (leb n 64 && leb s 64) (a .0) in
+      let c = both-true (leb n 64) (leb s 64) (b .1) in
+      let d = both-true (ruleOk rule) (leb (roomFor n s) (length r)) (a .1) in
+      ((leb-true 1 n (b .0), (leb-true n 64 (c .0), leb-true s 64 (c .1))), (d .0, leb-true (roomFor n s) (length r) (d .1)))
+
+  empty-length : length (emptyRoom n s rule m default) ≡ roomFor n s
+  unfolding emptyRoom
+  empty-length = simp (length-append, length-replicate, length-settings rule m default few) (omega arith)
+
+  first-length : length first ≡ length r
+  unfolding first
+  first-length = simp (length-append, length-drop) (omega (arith, empty-length, limits .1 .1))
+
+  first-limit : limit first ≡ n
+  unfolding first emptyRoom
+  first-limit = refl
+
+  first-depth : depth first ≡ s
+  unfolding first emptyRoom
+  first-depth = refl
+
+  first-objects : objects first ≡ 0
+  unfolding first emptyRoom
+  first-objects = refl
+
+  first-kept : kept first ≡ 0
+  unfolding first emptyRoom
+  first-kept = refl
+
+  first-settings : settings first ≡ settingsFor rule m default
+  unfolding first emptyRoom settings part
+  first-settings =
+      let z : List ℕ = replicate (n * 2211 + s * 1186) 0 in
+      let w : List ℕ = (n ∷ s ∷ 0 ∷ 0 ∷ []) ++ (settingsFor rule m default ++ z) in
+      rw (append-assoc (settingsFor rule m default) z (drop (length w) r))
+      (take-at (settingsFor rule m default) (z ++ drop (length w) r) 1044 (length-settings rule m default few))
+
+  first-formed : formed first ≡ true
+  unfolding stepsOk
+  first-formed =
+      let l = limits in
+      facts-formed first
+      (record {
+        head =
+            record {
+              long = omega (arith, first-length, l .1 .1);
+              some-limit = omega (arith, first-limit, l .0 .0);
+              limit-64 = omega (arith, first-limit, l .0 .1 .0);
+              depth-64 = omega (arith, first-depth, l .0 .1 .1);
+              within = omega (arith, first-objects);
+              kept-within = omega (arith, first-kept);
+              room-enough = rw (first-limit, first-depth, first-length) (l .1 .1);
+            };
+        settings-ok = rw first-settings (settings-good rule m default few (l .1 .0) good);
+        owned = λ i q. absurd (omega (arith, first-objects));
+        slots = λ i q. absurd (omega (arith, first-objects));
+        steps = rw first-kept refl;
+      })
+
+  first-shown : shown first ≡ start (rules n (settingsFor rule m default)) s
+  unfolding shown tab start rules
+  first-shown = rw (first-objects, first-kept) refl
+
+-- ---- every sequence of calls
+
+module _ (n s : ℕ) (e : List ℕ) where
+  record Good (r : List ℕ) (t : Tree) : Type 0 where
+    well : formed r ≡ true
+    limits-are : limit r ≡ n
+    depth-is : depth r ≡ s
+    settings-are : settings r ≡ e
+    shows : shown r ≡ t
+
+  -- one more call
+  call-by : (r r′ : List ℕ) (t : Tree) (m : Option Tree) (b : Bool) → shown r ≡ t → m ≡ when b (shown r′) → (b ≡ false → r′ ≡ r)
+      → (shown r′ ≡ orElse t m) × (b ≡ isSome m)
+  unfolding orElse isSome
+  call-by r r′ t m true e h stays = rw h (refl, refl)
+  call-by r r′ t m false e h stays = rw h (rw (stays refl) e, refl)
+
+  call-good : (r : List ℕ) (t : Tree) (q : Call Change) → Good r t
+      → Good (callTo q r .bytes) (orElse t (after (rules n e) s t q)) × (accepted (callTo q r .answer) ≡ isSome (after (rules n e) s t q))
+  call-good r t q g =
+      let X = call-ends r (g .well) q in
+      let a : after (rules n e) s t q ≡ when (accepted (callTo q r .answer)) (shown (callTo q r .bytes)) =
+      rw (← g .shows, ← g .limits-are, ← g .depth-is, ← g .settings-are) (X .told) in
+      let c = call-by r (callTo q r .bytes) t (after (rules n e) s t q) (accepted (callTo q r .answer)) (g .shows) a (X .stays) in (
+        record {
+          well = facts-formed (callTo q r .bytes) (X .well);
+          limits-are = X .limits ∙ g .limits-are;
+          depth-is = X .depths ∙ g .depth-is;
+          settings-are = X .same-settings ∙ g .settings-are;
+          shows = c .0;
+        },
+        c .1,
+      )
+
+  all-good : (r : List ℕ) → Good r (start (rules n e) s) → (qs : List (Call Change)) → Good (played qs r) (run (rules n e) s qs)
+  unfolding played run
+  all-good r g [] = g
+  all-good r g (q ∷ qs) = call-good (played qs r) (run (rules n e) s qs) q (all-good r g qs) .0
+
+past-undo : (n s : ℕ) (e : List ℕ) (qs : List (Call Change)) → 0 < remains (rules n e) s qs .left → accepts (rules n e) s (remains (rules n e) s qs) undo ≡ true
+unfolding accepts positive
+past-undo n s e qs h = by (remains (rules n e) s qs .left) h
+  where
+    by : (k : ℕ) → 0 < k → positive (rules n e) s k ≡ true
+    by zero q = absurd (omega arith)
+    by (suc k) q = refl
+
+-- an undo's answer: 11 where no step is kept; done where it is accepted
+undo-11 : (r : List ℕ) → formed r ≡ true → kept r ≡ 0 → undoTo r .answer ≡ Refused 11 0 0
+unfolding undoTo need
+undo-11 r h k = rw (h, k) refl
+
+undo-0 : (r : List ℕ) → formed r ≡ true → 0 < kept r → accepted (undoTo r .answer) ≡ true → undoTo r .answer ≡ Done 0 false 0
+unfolding undoTo need finishUndo
+undo-0 r h k a = rw (h, lt-ltb 0 (kept r) k) (by (undone (area r)) (rw (h, lt-ltb 0 (kept r) k) at a))
+  where
+    by : (o : Option (List ℕ)) → accepted (finishUndo r o .answer) ≡ true → finishUndo r o .answer ≡ Done 0 false 0
+    by none b = let z : _≡_ {A = ℕ} 0 1 = cc in absurd (omega arith)
+    by (some w) b = refl
+
+shown-kept : (r : List ℕ) → length (shown r .kept) ≡ kept r
+unfolding shown
+shown-kept r = length-tab (kept r) _
+
+-- what is read back is what the room shows: a computed list, an own list, own data
+pub record ReadBack (r out : List ℕ) (i : ℕ) : Type 0 where
+  pub computed-list : listTo i r out ≡ copied (told (getD (shown r .lists) i none)) (bytesIf (getD (shown r .lists) i none)) out
+  pub own-list : ownTo i r out ≡ copied (told (ownList (getD (shown r .own) i []))) (bytesIf (ownList (getD (shown r .own) i []))) out
+  pub own-data : dataTo i r out ≡ copied (Done (length (dataOf (getD (shown r .own) i []))) true 0) (dataOf (getD (shown r .own) i [])) out
+
+read-shown : (r out : List ℕ) (i : ℕ) → formed r ≡ true → i < objects r → ReadBack r out i
+unfolding listTo ownTo dataTo onObject need shown
+read-shown r out i h k =
+    let l = getD-tab (objects r) (λ j. held (slot j r)) i none k in
+    let o = getD-tab (objects r) (λ j. own j r) i [] k in
+    let t = lt-ltb i (objects r) k in
+    record { computed-list = rw (h, t, l) refl; own-list = rw (h, t, o) refl; own-data = rw (h, t, o) refl }
+
+-- what holds after the calls qs, the latest first, on the room r
+pub record Reached (n s : ℕ) (e r : List ℕ) (qs : List (Call Change)) : Type 0 where
+  pub well : formed (played qs r) ≡ true
+  pub limit-is : limit (played qs r) ≡ n
+  pub depth-is : depth (played qs r) ≡ s
+  pub settings-are : settings (played qs r) ≡ e
+  pub data-replayed : replay (rules n e) s (remains (rules n e) s qs .done) ≡ some (shown (played qs r) .own)
+  pub lists-afresh : afresh (rules n e) s (remains (rules n e) s qs .done) ≡ some (shown (played qs r) .lists)
+  pub steps-left : kept (played qs r) ≡ remains (rules n e) s qs .left
+  pub answered : (q : Call Change) → accepted (callTo q (played qs r) .answer) ≡ accepts (rules n e) s (remains (rules n e) s qs) q
+  pub refused-stays : (q : Call Change) → accepted (callTo q (played qs r) .answer) ≡ false → callTo q (played qs r) .bytes ≡ played qs r
+  pub undo-refused : remains (rules n e) s qs .left ≡ 0 → undoTo (played qs r) .answer ≡ Refused 11 0 0
+  pub undo-done : 0 < remains (rules n e) s qs .left → undoTo (played qs r) .answer ≡ Done 0 false 0
+  pub read-back : (i : ℕ) (out : List ℕ) → i < objects (played qs r) → ReadBack (played qs r) out i
+
+module _ (n s rule : ℕ) (m : Mapping) (default : MaybeList) (r : List ℕ) where
+  reached : startOk n s rule (length r) ≡ true → reads default ≡ true → short default ≡ true → (qs : List (Call Change))
+      → Reached n s (settingsFor rule m default) (front (emptyRoom n s rule m default) r) qs
+  unfolding first callTo
+  reached ok good few qs =
+      let g₀ : Good n s (settingsFor rule m default) (front (emptyRoom n s rule m default) r) (start (rules n (settingsFor rule m default)) s) = record {
+        well = first-formed n s rule m default r ok good few;
+        limits-are = first-limit n s rule m default r ok good few;
+        depth-is = first-depth n s rule m default r ok good few;
+        settings-are = first-settings n s rule m default r ok good few;
+        shows = first-shown n s rule m default r ok good few;
+      } in
+      let g = all-good n s (settingsFor rule m default) (front (emptyRoom n s rule m default) r) g₀ qs in
+      let H = history (rules n (settingsFor rule m default)) (lawful n (settingsFor rule m default)) s qs in
+      let left : kept (played qs (front (emptyRoom n s rule m default) r)) ≡ remains (rules n (settingsFor rule m default)) s qs .left =
+      sym (shown-kept (played qs (front (emptyRoom n s rule m default) r))) ∙ ap (λ (t : Tree). length (t .kept)) (g .shows) ∙ H .steps-left in
+      let told : (q : Call Change) → accepted (callTo q (played qs (front (emptyRoom n s rule m default) r)) .answer)
+      ≡ accepts (rules n (settingsFor rule m default)) s (remains (rules n (settingsFor rule m default)) s qs) q =
+      λ q. call-good n s (settingsFor rule m default) _ _ q g .1 ∙ H .told q in
+      record {
+        well = g .well;
+        limit-is = g .limits-are;
+        depth-is = g .depth-is;
+        settings-are = g .settings-are;
+        data-replayed = rw (g .shows) (H .data-replayed);
+        lists-afresh = rw (g .shows) (H .lists-afresh);
+        steps-left = left;
+        answered = told;
+        refused-stays = λ q. call-ends _ (g .well) q .stays;
+        undo-refused = λ z. undo-11 _ (g .well) (left ∙ z);
+        undo-done = λ z. undo-0 _ (g .well) (omega (arith, left)) (told undo ∙ past-undo n s (settingsFor rule m default) qs z);
+        read-back = λ i out k. read-shown _ out i (g .well) k;
+      }
+
+  -- a start that is accepted has passed its tests
+  started : (o go : Outcome) (b : Bool) → Passes r o go b → accepted (o .answer) ≡ true → (b ≡ true) × (o ≡ go)
+  started o go true (on e) h = (refl, e)
+  started o go false (stop x) h = absurd (off h (ap (λ (y : Outcome). accepted (y .answer)) (x .is)))
+
+  -- what an accepted start is given, and what it leaves
+  pub record Begun : Type 0 where
+    pub in-range : startOk n s rule (length r) ≡ true
+    pub reads-default : reads default ≡ true
+    pub short-default : short default ≡ true
+    pub bytes-are : startTo n s rule m default r .bytes ≡ front (emptyRoom n s rule m default) r
+    pub size-is : length (startTo n s rule m default r .bytes) ≡ length r
+
+  abbrev pub empty-tree : Outcome
+  empty-tree = record { answer = Done 0 false 0; bytes = front (emptyRoom n s rule m default) r }
+
+  pub start-passes : Passes r (startTo n s rule m default r) empty-tree (startOk n s rule (length r) && (reads default && short default))
+  unfolding startTo
+  start-passes =
+      then r _ _ empty-tree (startOk n s rule (length r)) _ (need-first (startOk n s rule (length r)) 12 r _)
+      (then r _ _ empty-tree (reads default) (short default) (reads-first default 3 r _) (need-first (short default) 8 r empty-tree))
+
+  pub begun : accepted (startTo n s rule m default r .answer) ≡ true → Begun
+  unfolding first
+  begun h =
+      let p = started (startTo n s rule m default r) empty-tree _ start-passes h in
+      let a = both-true (startOk n s rule (length r)) (reads default && short default) (p .0) in
+      let b = both-true (reads default) (short default) (a .1) in
+      record {
+        in-range = a .0;
+        reads-default = b .0;
+        short-default = b .1;
+        bytes-are = ap (λ (o : Outcome). o .bytes) (p .1);
+        size-is = ap (λ (o : Outcome). length (o .bytes)) (p .1) ∙ first-length n s rule m default r (a .0) (b .0) (b .1);
+      }
+
+  -- a start that is refused leaves the room
+  pub start-stays : accepted (startTo n s rule m default r .answer) ≡ false → startTo n s rule m default r .bytes ≡ r
+  start-stays h = by _ _ start-passes h
+    where
+      by : (o : Outcome) (b : Bool) → Passes r o empty-tree b → accepted (o .answer) ≡ false → o .bytes ≡ r
+      by o true (on e) k = absurd (off (ap (λ (y : Outcome). accepted (y .answer)) e) k)
+      by o false (stop x) k = ap (λ (y : Outcome). y .bytes) (x .is)
+
+  -- whatever tree a start gives, and whatever changes and undos follow
+  pub reaches : accepted (startTo n s rule m default r .answer) ≡ true → (qs : List (Call Change))
+      → Reached n s (settingsFor rule m default) (startTo n s rule m default r .bytes) qs
+  reaches h qs =
+      let b = begun h in
+      subst (λ (x : List ℕ). Reached n s (settingsFor rule m default) x qs) (sym (b .bytes-are)) (reached (b .in-range) (b .reads-default) (b .short-default) qs)
