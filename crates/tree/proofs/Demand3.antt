@@ -57,13 +57,14 @@ start-as b r =
 
 -- ---- what a room shows of the model's tree, and what calls on it answer
 
-pub record Shows (r : List ℕ) (s : Model.Tree) : Type 0 where
+pub record Shows (long : ℕ) (r : List ℕ) (s : Model.Tree) : Type 0 where
+  pub long-is : length r ≡ long
   pub well : formed r ≡ true
   pub settings-are : settingsIn r ≡ s .settings
   pub objects-are : objectsIn r ≡ Model.objectsOf s
   pub lists-are : (i : ℕ) → i < objects r → Model.listOf (s .settings) (Model.objectsOf s) i ≡ some (held (slot i r))
   pub kept-are : kept r ≡ s .kept
-  pub answers : (q : Call) → answerTo q r ≡ Model.answer s (meant (length r) q)
+  pub answers : (q : Call) → answerTo q r ≡ Model.answer s (meant long q)
   pub read-back : (x : Model.Part) (i : ℕ) (out : List ℕ) → readWith x i r out .bytes ≡ Model.readInto (s .settings) (Model.objectsOf s) x i out
 
 -- ---- a start, and the changes and undos since
@@ -166,10 +167,11 @@ module _ (b : Begin) (r : List ℕ) (h : accepted (startWith b r .answer) ≡ tr
   all-said qs (read x i out) = read-said qs x i out .answer-is
   all-said qs counts = counts-said qs
 
-  shows : (qs : List (Step Change)) → Shows (room qs) (tree qs)
+  shows : (qs : List (Step Change)) → Shows (length (room qs)) (room qs) (tree qs)
   unfolding past
   shows qs =
       record {
+        long-is = refl;
         well = H qs .well;
         settings-are = settings-as qs;
         objects-are = objects-as qs;
@@ -268,10 +270,11 @@ module _ {long : ℕ} {r : List ℕ} {s : Model.Tree} (f : Follows long r s) whe
   abbrev R : List ℕ
   R = room (f .given) (f .before) (f .accepts-it) (f .steps)
 
-  T : Shows r s
+  T : Shows long r s
   T =
-      subst (λ (x : List ℕ). Shows x s) (sym (f .room-is))
-      (subst (λ (x : Model.Tree). Shows R x) (sym (f .tree-is)) (shows (f .given) (f .before) (f .accepts-it) (f .steps)))
+      subst (λ (n : ℕ). Shows n r s) (f .long-is)
+      (subst (λ (x : List ℕ). Shows (length x) x s) (sym (f .room-is))
+      (subst (λ (x : Model.Tree). Shows (length R) R x) (sym (f .tree-is)) (shows (f .given) (f .before) (f .accepts-it) (f .steps))))
 
   -- a change or an undo
   follows-step : (q : Step Change) (s′ : Model.Tree) → Model.next s (stepMeant q) ≡ s′ → Follows long (callTo q r .bytes) s′
@@ -316,5 +319,5 @@ follows-all b r h (q ∷ qs) = follows-call (follows-all b r h qs) q
 
 -- the theorem
 pub demand3 : (b : Begin) (r : List ℕ) → accepted (startWith b r .answer) ≡ true → (qs : List Call)
-    → Shows (playedOn qs (startWith b r .bytes)) (Model.after (Model.begun (settingsFrom b)) (map (meant (length r)) qs))
+    → Shows (length r) (playedOn qs (startWith b r .bytes)) (Model.after (Model.begun (settingsFrom b)) (map (meant (length r)) qs))
 demand3 b r h qs = T (follows-all b r h qs)

@@ -26,8 +26,10 @@ pub mod Modelled
 pub mod Reading
 pub mod Numbers
 pub mod Reaches
-pub mod Demand3
 pub mod Worked
+pub mod Demand3
+pub mod Trees
+pub mod Exact
 pub mod Answered
 pub mod Changing
 pub mod Determined

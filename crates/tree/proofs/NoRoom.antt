@@ -10,19 +10,20 @@ use native.Mathlib.Omega.{arith}
 use lib.ListN.{length, set, length-append, length-set, List·getD-append}
 use lib.Seq.{getD-at, getD-set-same, getD-set-other}
 use lib.Dec.{leb, ltb}
-use borrow.Author.Tests.{leb-false, ltb-true}
+use borrow.Author.Tests.{leb-false, lt-leb, ltb-true}
 use Rattle.list.specs.Entry.{access}
 use Rattle.list.specs.List.{checkOf}
 use Rattle.list.specs.declared.lists.Reading.{Reading}
 use Rattle.list.specs.declared.lists.Reading.the-variants.{Done as Read, Refused as Unread}
-use Rattle.list.proofs.Answers.{ListNumber, list-number}
 use Rattle.list.proofs.Places.{split}
-use Rattle.list.proofs.Tests.{both-true}
+use Rattle.list.proofs.Tests.{both-true, off}
 use Rattle.inherit.specs.Asked.{MaybeList}
 use Rattle.inherit.specs.Branch.{Result, absent, holds, resultOf}
 use Rattle.inherit.specs.Compute.{ordinary, bytesFor, onReading, readable}
 use Rattle.list.specs.Order.{need}
 use Rattle.list.specs.Answer.{Values, done, refused}
+use Rattle.tree.specs.Held.{isDone}
+use Rattle.tree.specs.Replay.{reads}
 use Rattle.tree.specs.General.{bind, isSome, every}
 use Rattle.tree.specs.Model.{Settings, Object, no-object, object, asked, short, fitting, listBelow, above, listFrom, listOf, listed, Change, add, setList, setMark, setOwners, withList, withMark, withOwners, apply, shortIf, told, outcome, placed, changeAnswer}
 
@@ -117,69 +118,146 @@ module _ (os : List Object) (E : Earlier os) where
 
 -- ---- where the answer is 8
 
--- the list that a change gives
+fitting-long : (r : Result) → 1024 < length (bytesFor r) → fitting r ≡ none
+unfolding fitting bytesFor
+fitting-long absent h = absurd (omega arith)
+fitting-long (holds es k) h = rw (lt-leb (length (bytesFor (holds es k))) 1024 h) refl
+
+every-false : (f : ℕ → Bool) (n j : ℕ) → j < n → f j ≡ false → every f n ≡ false
+unfolding every
+every-false f zero j h e = absurd (omega arith)
+every-false f (suc n) j h e =
+    elim (ℕ-discrete j n) [
+      | yes q ↦ rw (← q, e) (and-false (every f j))
+      | no q ↦ rw (every-false f n j (omega arith) e) refl
+    ]
+  where
+    and-false : (b : Bool) → (b && false) ≡ false
+    and-false true = refl
+    and-false false = refl
+
+module _ (t : Settings) (os : List Object) (E : Earlier os) where
+  above-same : (j m : ℕ) (x : MaybeList) → j < length os → length os ≡ suc m → above (object os j .parent) (listOf t os) ≡ some x
+      → above (object os j .parent) (listFrom t os m) ≡ some x
+  above-same j m x h n e =
+      elim (E j h) [
+        | inl q ↦ rw q (rw q at e)
+        | inr q ↦ rw (q .1 .0) (list-enough t os E m (length os) (q .0) (omega (arith, q .1 .1)) (omega (arith, q .1 .1)) (omega (arith, q .1 .1)) ∙ rw (q .1 .0) at e)
+      ]
+
+  long-none : (j : ℕ) → TooLong t os j → listOf t os j ≡ none
+  unfolding listFrom bind
+  long-none j l = by (length os) refl
+    where
+      by : (n : ℕ) → length os ≡ n → listFrom t os n j ≡ none
+      by zero e = refl
+      by (suc m) e = rw (above-same j m (l .parent) (l .stands) e (l .parent-is)) (fitting-long _ (l .long))
+
+  pub long-unlisted : (j : ℕ) → TooLong t os j → listed t os ≡ false
+  unfolding listed isSome
+  long-unlisted j l = every-false (λ i. isSome (listOf t os i)) (length os) j (l .stands) (rw (long-none j l) refl)
+
+-- the list that a change gives, and the object that it changes
 abbrev pub listGiven : Change → MaybeList
 listGiven (add o) = o .list
 listGiven (setList i l) = l
 listGiven (setMark i m) = none
 listGiven (setOwners i x y) = none
 
-need-8 : (b : Bool) (k : ℕ) (x : Values) → (k ≡ 8 → ⊥) → need b (refused k 0 0) x ≡ refused 8 0 0 → (b ≡ true) × (x ≡ refused 8 0 0)
+abbrev pub changedBy : Change → List Object → ℕ
+changedBy (add o) os = length os
+changedBy (setList i l) os = i
+changedBy (setMark i m) os = i
+changedBy (setOwners i x y) os = i
+
+-- what is tested before room: 9, 10, 1 to 5, 6
+unfoldable pub earlier-tests : Settings → List Object → Change → Bool
+earlier-tests t os (add o) =
+    placed os (o .parent) && (ltb (length os) (t .object-limit) && (reads (o .list) && (ordinary (o .owner) && ordinary (o .group))))
+earlier-tests t os (setList i l) = ltb i (length os) && reads l
+earlier-tests t os (setMark i m) = ltb i (length os)
+earlier-tests t os (setOwners i x y) = ltb i (length os) && (ordinary x && ordinary y)
+
+-- the list given, or some object's list worked out afresh after the change, has more than 1,024 bytes
+abbrev pub Over : Settings → List Object → Change → Type 0
+Over t os c = (shortIf (listGiven c) ≡ false) ⊎ ((j : ℕ) × TooLong t (apply c os) j)
+
+reads-on : (l : MaybeList) (which : ℕ) (v : Values) → reads l ≡ true → readable l which v ≡ v
+unfolding reads readable onReading
+reads-on none which v h = refl
+reads-on (some s) which v h = by (checkOf access s) h
+  where
+    by : (x : Reading) → isDone x ≡ true → onReading x which v ≡ v
+    by (Read l n) e = refl
+    by (Unread k at) e = let z : _≡_ {A = ℕ} 0 1 = cc in absurd (omega arith)
+
+need-on : (v w : Values) → need true v w ≡ w
 unfolding need
-need-8 true k x n h = (refl, h)
-need-8 false k x n h = let z = ap (λ (v : Values). v .number) h in absurd (n z)
+need-on v w = refl
 
-reading-8 : (d : Reading) (which : ℕ) (x : Values) → ListNumber d → onReading d which x ≡ refused 8 0 0 → x ≡ refused 8 0 0
-unfolding onReading
-reading-8 (Read l n) which x k h = h
-reading-8 (Unread j at) which x k h = let z = ap (λ (v : Values). v .number) h in absurd (omega (arith, k .1))
-
-readable-8 : (l : MaybeList) (which : ℕ) (x : Values) → readable l which x ≡ refused 8 0 0 → x ≡ refused 8 0 0
-unfolding readable
-readable-8 none which x h = h
-readable-8 (some s) which x h = reading-8 (checkOf access s) which x (list-number access s) h
-
-short-8 : (b : Bool) (x : Values) {P : Type 0} → need b (refused 8 0 0) x ≡ refused 8 0 0 → (x ≡ refused 8 0 0 → P) → (b ≡ false) ⊎ P
+need-off : (v w : Values) → need false v w ≡ v
 unfolding need
-short-8 true x h f = inr (f h)
-short-8 false x h f = inl refl
+need-off v w = refl
+
+passed-8 : (w v : Values) → need true w v .number ≡ 8 → v .number ≡ 8
+unfolding need
+passed-8 w v h = h
 
 module _ (t : Settings) where
-  outcome-8 : (os : List Object) (i : ℕ) → Earlier os → i < length os → outcome t os i ≡ refused 8 0 0 → (j : ℕ) × TooLong t os j
+  outcome-8 : (os : List Object) (i : ℕ) → Earlier os → i < length os → outcome t os i .number ≡ 8 → (j : ℕ) × TooLong t os j
   unfolding outcome need told
   outcome-8 os i E h e = by (listed t os) refl e
     where
-      list-8 : (o : Option MaybeList) → listOf t os i ≡ o → told o ≡ refused 8 0 0 → (j : ℕ) × TooLong t os j
+      list-8 : (o : Option MaybeList) → listOf t os i ≡ o → told o .number ≡ 8 → (j : ℕ) × TooLong t os j
       list-8 none q f = from-long t os E (length os) i h h q
-      list-8 (some none) q f = let z = ap (λ (v : Values). v .number) f in absurd (omega arith)
-      list-8 (some (some s)) q f = let z = ap (λ (v : Values). v .number) f in absurd (omega arith)
+      list-8 (some none) q f = absurd (omega arith)
+      list-8 (some (some s)) q f = absurd (omega arith)
 
-      by : (b : Bool) → listed t os ≡ b → need b (refused 8 0 0) (told (listOf t os i)) ≡ refused 8 0 0 → (j : ℕ) × TooLong t os j
+      by : (b : Bool) → listed t os ≡ b → need b (refused 8 0 0) (told (listOf t os i)) .number ≡ 8 → (j : ℕ) × TooLong t os j
       by true q f = list-8 (listOf t os i) refl f
       by false q f = listed-or-long t os E q
 
-  module _ (os : List Object) (E : Earlier os) where
-    set-8 : (i : ℕ) (o : Object) → ltb i (length os) ≡ true → o .parent ≡ object os i .parent → outcome t (set os i o) i ≡ refused 8 0 0 → (j : ℕ) × TooLong t (set os i o) j
-    set-8 i o h p e =
-        let k = ltb-true i (length os) h in
-        outcome-8 (set os i o) i (earlier-set os E i o k p) (rw length-set k) e
+  over-8 : (os : List Object) (i : ℕ) → Earlier os → (j : ℕ) → TooLong t os j → outcome t os i ≡ refused 8 0 0
+  unfolding outcome need
+  over-8 os i E j l = rw (long-unlisted t os E j l) refl
 
-    pub eight : (c : Change) → changeAnswer t os c ≡ refused 8 0 0 → (shortIf (listGiven c) ≡ false) ⊎ ((j : ℕ) × TooLong t (apply c os) j)
-    unfolding changeAnswer apply
-    eight (add o) h =
-        let a = need-8 (placed os (o .parent)) 9 _ (λ z. absurd (omega arith)) h in
-        let b = need-8 (ltb (length os) (t .object-limit)) 10 _ (λ z. absurd (omega arith)) (a .1) in
-        let c = need-8 (ordinary (o .owner)) 6 _ (λ z. absurd (omega arith)) (readable-8 (o .list) 2 _ (b .1)) in
-        let d = need-8 (ordinary (o .group)) 6 _ (λ z. absurd (omega arith)) (c .1) in
-        short-8 (shortIf (o .list)) _ (d .1) (λ e. outcome-8 (os ++ (o ∷ [])) (length os) (earlier-add os E o (a .0)) (simp length-append (omega arith)) e)
-    eight (setList i l) h =
-        let a = need-8 (ltb i (length os)) 9 _ (λ z. absurd (omega arith)) h in
-        short-8 (shortIf l) _ (readable-8 l 2 _ (a .1)) (λ e. set-8 i (withList l (object os i)) (a .0) refl e)
-    eight (setMark i m) h =
-        let a = need-8 (ltb i (length os)) 9 _ (λ z. absurd (omega arith)) h in
-        inr (set-8 i (withMark m (object os i)) (a .0) refl (a .1))
-    eight (setOwners i x y) h =
-        let a = need-8 (ltb i (length os)) 9 _ (λ z. absurd (omega arith)) h in
-        let b = need-8 (ordinary x) 6 _ (λ z. absurd (omega arith)) (a .1) in
-        let c = need-8 (ordinary y) 6 _ (λ z. absurd (omega arith)) (b .1) in
-        inr (set-8 i (withOwners x y (object os i)) (a .0) refl (c .1))
+  module _ (os : List Object) (E : Earlier os) where
+    -- what a change whose earlier tests were passed answers, and the objects after it
+    tests-passed : (c : Change) → earlier-tests t os c ≡ true
+        → (changeAnswer t os c ≡ need (shortIf (listGiven c)) (refused 8 0 0) (outcome t (apply c os) (changedBy c os)))
+        × (Earlier (apply c os) × (changedBy c os < length (apply c os)))
+    unfolding earlier-tests changeAnswer apply need shortIf
+    tests-passed (add o) h =
+        let a = both-true (placed os (o .parent)) _ h in
+        let b = both-true (ltb (length os) (t .object-limit)) _ (a .1) in
+        let c = both-true (reads (o .list)) _ (b .1) in
+        let d = both-true (ordinary (o .owner)) (ordinary (o .group)) (c .1) in
+        (rw (a .0, b .0, d .0, d .1) (reads-on (o .list) 2 _ (c .0)), (earlier-add os E o (a .0), simp length-append (omega arith)))
+    tests-passed (setList i l) h =
+        let a = both-true (ltb i (length os)) (reads l) h in
+        let k = ltb-true i (length os) (a .0) in
+        (rw (a .0) (reads-on l 2 _ (a .1)), (earlier-set os E i (withList l (object os i)) k refl, rw length-set k))
+    tests-passed (setMark i m) h =
+        let k = ltb-true i (length os) h in
+        (rw h refl, (earlier-set os E i (withMark m (object os i)) k refl, rw length-set k))
+    tests-passed (setOwners i x y) h =
+        let a = both-true (ltb i (length os)) (ordinary x && ordinary y) h in
+        let b = both-true (ordinary x) (ordinary y) (a .1) in
+        let k = ltb-true i (length os) (a .0) in
+        (rw (a .0, b .0, b .1) refl, (earlier-set os E i (withOwners x y (object os i)) k refl, rw length-set k))
+
+    -- 8 exactly then
+    pub change-exact : (c : Change) → earlier-tests t os c ≡ true
+        → (changeAnswer t os c .number ≡ 8 → Over t os c) × (Over t os c → changeAnswer t os c ≡ refused 8 0 0)
+    change-exact c h =
+        let p = tests-passed c h in
+        rw (p .0) (λ e. to (shortIf (listGiven c)) refl e, λ o. from (shortIf (listGiven c)) refl o)
+      where
+        to : (b : Bool) → shortIf (listGiven c) ≡ b → need b (refused 8 0 0) (outcome t (apply c os) (changedBy c os)) .number ≡ 8 → Over t os c
+        to true q e = inr (outcome-8 (apply c os) (changedBy c os) (tests-passed c h .1 .0) (tests-passed c h .1 .1) (passed-8 _ _ e))
+        to false q e = inl q
+
+        from : (b : Bool) → shortIf (listGiven c) ≡ b → Over t os c → need b (refused 8 0 0) (outcome t (apply c os) (changedBy c os)) ≡ refused 8 0 0
+        from true q (inl z) = absurd (off q z)
+        from true q (inr l) = need-on _ _ ∙ over-8 (apply c os) (changedBy c os) (tests-passed c h .1 .0) (l .0) (l .1)
+        from false q o = need-off _ _

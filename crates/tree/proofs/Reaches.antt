@@ -206,7 +206,7 @@ undo-11 : (r : List ℕ) → formed r ≡ true → kept r ≡ 0 → undoTo r .an
 unfolding undoTo need
 undo-11 r h k = rw (h, k) refl
 
-undo-0 : (r : List ℕ) → formed r ≡ true → 0 < kept r → accepted (undoTo r .answer) ≡ true → undoTo r .answer ≡ Done 0 false 0
+pub undo-0 : (r : List ℕ) → formed r ≡ true → 0 < kept r → accepted (undoTo r .answer) ≡ true → undoTo r .answer ≡ Done 0 false 0
 unfolding undoTo need finishUndo
 undo-0 r h k a = rw (h, lt-ltb 0 (kept r) k) (by (undone (area r)) (rw (h, lt-ltb 0 (kept r) k) at a))
   where

@@ -1,16 +1,16 @@
 -- How the bytes of a room, and the arguments of a call, are read as the model's objects, settings and calls.
-use Prim.Native.Nat.{ℕ, _%_}
+use Prim.Native.Nat.{ℕ, _-_, _%_}
 use mathlib.Core.Bool.{cond}
 use mathlib.Core.List.{List, [], _∷_}
 use mathlib.Core.Option.{Option, none, some}
-use lib.ListN.{length}
+use lib.ListN.{length, take, set}
 use lib.Dec.{eqb, leb}
 use Rattle.list.specs.Bytes.{guidAt}
 use Rattle.list.specs.Answer.{Values}
 use Rattle.inherit.specs.declared.Mapping.{Mapping}
 use Rattle.inherit.specs.Asked.{MaybeList}
 use Rattle.tree.specs.Held.{New, parentOf, kindOf, markOf, typeOf, ownerOf, groupOf, ownList}
-use Rattle.tree.specs.Room.{limit, depth, objects, settings, ruleOf, mappingOf, defaultOf, own, roomFor}
+use Rattle.tree.specs.Room.{limit, depth, objects, settings, ruleOf, mappingOf, defaultOf, own, step, tagOf, numberOf, savedIn, roomFor}
 use Rattle.tree.specs.Calls.{Edit, list, mark, owners, nobody, Outcome, answerValues, startTo, addTo, alterTo, undoTo, listTo, ownTo, dataTo, countsTo}
 use Rattle.tree.specs.Replay.{Change, add, alter, tab}
 use Rattle.tree.specs.Model as Model
@@ -38,6 +38,11 @@ objectIn b =
 -- the objects of a room
 unfoldable pub objectsIn : List ℕ → List Object
 objectsIn r = tab (objects r) (λ i. objectIn (own i r))
+
+-- the objects that stand once the latest kept step is taken back: that of an add is gone, any other has its own data as it was before
+unfoldable pub objectsBack : List ℕ → List Object
+objectsBack r = let u = step (limit r) 0 r in
+    cond (eqb (tagOf u) 1) (take (objects r - 1) (objectsIn r)) (set (objectsIn r) (numberOf u) (objectIn (savedIn u)))
 
 -- its settings: the two limits, and what lies in the bytes e
 abbrev pub settingsAt : ℕ → ℕ → List ℕ → Settings

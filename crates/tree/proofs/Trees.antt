@@ -1,0 +1,212 @@
+-- Trees worked by hand: document 01's script, K7 to K9, a default list, undo, forgotten steps and refusals, computed over the model; and, by demand 3, what the
+-- calls answer in any room.
+use mathlib.Core.Path.{_≡_, refl, sym, ap, ap₂, _∙_}
+use mathlib.Core.Bool.{Bool, true, false}
+use mathlib.Core.List.{List, [], _∷_, _++_, map}
+use mathlib.Core.Option.{Option, none, some}
+use Prim.Native.Nat.{ℕ, _≤_}
+use lib.ListN.{length, replicate}
+use lib.Dec.{eqb, leb}
+use borrow.Author.Tests.{le-leb}
+use Rattle.list.specs.Identity.{creator}
+use Rattle.list.specs.Answer.{Values, done, refused}
+use Rattle.inherit.specs.Asked.{MaybeList}
+use Rattle.inherit.proofs.Worked.{mapping, system, parentWith, inherited, listed as bytes}
+use Rattle.tree.specs.General.{bind, isSome, every, rest}
+use Rattle.tree.specs.Held.{New}
+use Rattle.tree.specs.Room.{roomFor}
+use Rattle.tree.specs.Calls.{list as Edit·list, mark as Edit·mark}
+use Rattle.tree.specs.Replay.{add as Change·add, alter}
+use Rattle.tree.specs.Played.{accepted}
+use Rattle.tree.specs.Model.{Settings, Object, object, fitting, listFrom, listOf, listed, Change, add, setList, setMark, setOwners, apply, objectsAfter, placed, shortIf, told, outcome, changeAnswer, limitsOk, startAnswer, Part, computed-list, own-list, other-data, bytesIf, parentByte, dataBytes, partBytes, partTold, readAnswer, readInto, Call, start, change, undo, read, counts, Tree, begun, objectsOf, undoAnswer, answer, takenOff, next, after}
+use Rattle.tree.specs.Shown as Shown
+use Rattle.tree.specs.Shown.{Begin, settingsFrom, startWith, meant, alteration, changeMeant, answerTo, playedOn}
+use Rattle.tree.proofs.Modelled.{said}
+use Rattle.tree.proofs.Numbers.{accepted-number, start-numbered}
+use Rattle.tree.proofs.Demand3.{start-as, Shows, demand3}
+use Rattle.tree.proofs.Worked.{bytes-open, entries-open, lists-open, copies-open, last-open, compute-open}
+
+-- ---- over the model
+
+abbrev tree : ℕ → ℕ → MaybeList → Tree
+tree rule steps default = begun (record { object-limit = 3; step-limit = steps; rule = rule; mapping = mapping; default = default })
+
+abbrev folder : Option ℕ → Bool → MaybeList → Call
+folder parent mark list =
+    change (add (record { parent = parent; container = true; mark = mark; type = replicate 16 0; owner = system; group = system; list = list }))
+
+-- the worked parent as the root's own list; a container below it
+abbrev root : Call
+root = folder none false (some (parentWith 0x03))
+
+abbrev child : Bool → MaybeList → Call
+child mark list = folder (some 0) mark list
+
+-- allow, flags 0, mask 1, S-1-5-18, and its list
+abbrev plain : List ℕ
+plain = 0x00 ∷ 0x00 ∷ 0x14 ∷ 0 ∷ 0x01 ∷ 0 ∷ 0 ∷ 0 ∷ system
+
+abbrev plain-list : List ℕ
+plain-list = bytes 0x1C 1 (plain ∷ [])
+
+-- what calls answer, the latest first, and object i's list after them
+unfoldable pub answers : Tree → List Call → List Values
+answers s [] = []
+answers s (q ∷ qs) = answer (after s qs) q ∷ answers s qs
+
+abbrev listAfter : Tree → List Call → ℕ → Option MaybeList
+listAfter s qs i = let x = after s qs in listOf (x .settings) (objectsOf x) i
+
+unfoldable model-open : Unit {0}
+unfolding fitting listFrom listed apply objectsAfter placed shortIf told outcome changeAnswer limitsOk startAnswer bytesIf parentByte dataBytes partBytes partTold readAnswer readInto undoAnswer answer takenOff next after bind isSome every rest answers
+model-open = tt
+
+pub record Worked : Type 0 where
+  -- document 01's listing: 0 28 1, then 1 48 2; and the lists' bytes
+  pub script-answers : answers (tree 2 16 none) (child false none ∷ root ∷ []) ≡ done 48 1 2 0 ∷ done 28 1 1 0 ∷ []
+  pub script-first : listAfter (tree 2 16 none) (child false none ∷ root ∷ []) 0 ≡ some (some (bytes 0x1C 1 (inherited 0x03 ∷ [])))
+  pub script-second : listAfter (tree 2 16 none) (child false none ∷ root ∷ []) 1 ≡ some (some (bytes 0x30 2 (inherited 0x10 ∷ inherited 0x1B ∷ [])))
+  -- K7, under rule 1 a marked child whose own list is one plain entry: an empty list; K8, under rule 2: that entry alone; K9, without the mark: that
+  -- entry, then K1's two
+  pub K7 : listAfter (tree 1 16 none) (child true (some plain-list) ∷ root ∷ []) 1 ≡ some (some (bytes 0x08 0 []))
+  pub K8 : listAfter (tree 2 16 none) (child true (some plain-list) ∷ root ∷ []) 1 ≡ some (some plain-list)
+  pub K9 : listAfter (tree 2 16 none) (child false (some plain-list) ∷ root ∷ []) 1 ≡ some (some (bytes 0x44 3 (plain ∷ inherited 0x10 ∷ inherited 0x1B ∷ [])))
+  -- K10, a marked child with no own list: K1's list all the same
+  pub K10 : listAfter (tree 2 16 none) (child true none ∷ root ∷ []) 1 ≡ some (some (bytes 0x30 2 (inherited 0x10 ∷ inherited 0x1B ∷ [])))
+  -- with a default list, a root without an own list has it; so has a child below a parent that hands nothing down
+  pub default-root : listAfter (tree 2 16 (some plain-list)) (folder none false none ∷ []) 0 ≡ some (some plain-list)
+  pub default-child : listAfter (tree 2 16 (some plain-list)) (child false none ∷ folder none false none ∷ []) 1 ≡ some (some plain-list)
+  pub no-default : listAfter (tree 2 16 none) (folder none false none ∷ []) 0 ≡ some none
+  -- K8 with its mark taken off is K9; undo puts the mark back, takes the child off, then the root; then there is nothing to undo
+  pub undo-answers :
+      answers (tree 2 16 none) (undo ∷ undo ∷ undo ∷ undo ∷ change (setMark 1 false) ∷ child true (some plain-list) ∷ root ∷ [])
+      ≡ refused 11 0 0 ∷ done 0 0 0 0 ∷ done 0 0 0 0 ∷ done 0 0 0 0 ∷ done 68 1 3 0 ∷ done 28 1 1 0 ∷ done 28 1 1 0 ∷ []
+  pub undo-mark : listAfter (tree 2 16 none) (undo ∷ change (setMark 1 false) ∷ child true (some plain-list) ∷ root ∷ []) 1 ≡ some (some plain-list)
+  pub undo-all : objectsOf (after (tree 2 16 none) (undo ∷ undo ∷ child true (some plain-list) ∷ root ∷ [])) ≡ []
+  -- with S = 1 the first of two changes is forgotten; with S = 0 nothing can be undone
+  pub forgotten : answers (tree 2 1 none) (undo ∷ undo ∷ child true none ∷ root ∷ []) ≡ refused 11 0 0 ∷ done 0 0 0 0 ∷ done 48 1 2 0 ∷ done 28 1 1 0 ∷ []
+  pub never-kept : answers (tree 2 0 none) (undo ∷ root ∷ []) ≡ refused 11 0 0 ∷ done 28 1 1 0 ∷ []
+  -- refusals in document 01's order: a second root, a first object with a parent, no such object 9; the limit reached 10, even with a bad list; a list cut
+  -- short 1, of list 2; a placeholder for owner 6
+  pub two-roots : answers (tree 2 16 none) (root ∷ root ∷ []) ≡ refused 9 0 0 ∷ done 28 1 1 0 ∷ []
+  pub no-root : answers (tree 2 16 none) (child false none ∷ []) ≡ refused 9 0 0 ∷ []
+  pub no-object : answers (tree 2 16 none) (change (setMark 1 true) ∷ root ∷ []) ≡ refused 9 0 0 ∷ done 28 1 1 0 ∷ []
+  pub limit-reached :
+      answers (tree 2 16 none) (child false (some []) ∷ child false none ∷ child false none ∷ root ∷ [])
+      ≡ refused 10 0 0 ∷ done 48 1 2 0 ∷ done 48 1 2 0 ∷ done 28 1 1 0 ∷ []
+  pub bad-list : answers (tree 2 16 none) (change (setList 0 (some [])) ∷ root ∷ []) ≡ refused 1 2 0 ∷ done 28 1 1 0 ∷ []
+  pub bad-owner : answers (tree 2 16 none) (change (setOwners 0 (creator 0) system) ∷ root ∷ []) ≡ refused 6 0 0 ∷ done 28 1 1 0 ∷ []
+  -- what is read back of the root: its own list, its other data; and how many objects and steps there are
+  pub own-read : answers (tree 2 16 none) (read own-list 0 (replicate 28 0) ∷ read own-list 0 (replicate 27 0) ∷ root ∷ []) ≡ done 28 1 1 0 ∷ refused 8 0 0 ∷ done 28 1 1 0 ∷ []
+  pub data-read :
+      readInto (after (tree 2 16 none) (root ∷ []) .settings) (objectsOf (after (tree 2 16 none) (root ∷ []))) other-data 0 (replicate 46 7)
+      ≡ 0xFF ∷ 1 ∷ 0 ∷ (replicate 16 0 ++ (12 ∷ (system ++ (12 ∷ (system ++ (7 ∷ []))))))
+  pub counted : answers (tree 2 16 none) (counts ∷ child false none ∷ root ∷ []) ≡ done 2 1 2 0 ∷ done 48 1 2 0 ∷ done 28 1 1 0 ∷ []
+  -- a start on the standing tree: refused by its limits it changes nothing, accepted it begins anew
+  pub start-refused :
+      answers (tree 2 16 none) (counts ∷ start (record { object-limit = 65; step-limit = 0; rule = 2; mapping = mapping; default = none }) true ∷ root ∷ [])
+      ≡ done 1 1 1 0 ∷ refused 12 0 0 ∷ done 28 1 1 0 ∷ []
+  pub start-again :
+      answers (tree 2 16 none) (counts ∷ start (record { object-limit = 64; step-limit = 0; rule = 1; mapping = mapping; default = none }) true ∷ root ∷ [])
+      ≡ done 0 1 0 0 ∷ done 0 0 0 0 ∷ done 28 1 1 0 ∷ []
+
+pub worked : Worked
+unfolding bytes-open entries-open lists-open copies-open last-open compute-open model-open
+worked =
+    record {
+      script-answers = refl;
+      script-first = refl;
+      script-second = refl;
+      K7 = refl;
+      K8 = refl;
+      K9 = refl;
+      K10 = refl;
+      default-root = refl;
+      default-child = refl;
+      no-default = refl;
+      undo-answers = refl;
+      undo-mark = refl;
+      undo-all = refl;
+      forgotten = refl;
+      never-kept = refl;
+      two-roots = refl;
+      no-root = refl;
+      no-object = refl;
+      limit-reached = refl;
+      bad-list = refl;
+      bad-owner = refl;
+      own-read = refl;
+      data-read = refl;
+      counted = refl;
+      start-refused = refl;
+      start-again = refl;
+    }
+
+-- ---- over the calls, in any room that is large enough
+
+-- what calls answer one after another, the latest first
+unfoldable pub answersOn : List Shown.Call → List ℕ → List Values
+answersOn [] r = []
+answersOn (q ∷ qs) r = answerTo q (playedOn qs r) ∷ answersOn qs r
+
+all-answered : (b : Begin) (r : List ℕ) → accepted (startWith b r .answer) ≡ true → (qs : List Shown.Call)
+    → answersOn qs (startWith b r .bytes) ≡ answers (begun (settingsFrom b)) (map (meant (length r)) qs)
+unfolding answersOn answers
+all-answered b r h [] = refl
+all-answered b r h (q ∷ qs) = ap₂ (λ (v : Values) (vs : List Values). v ∷ vs) (demand3 b r h qs .answers q) (all-answered b r h qs)
+
+-- rule 2, room for 3 objects and 16 steps, a default list or none
+abbrev begin : MaybeList → Begin
+begin default = record { objects = 3; steps = 16; rule = 2; mapping = mapping; default = default }
+
+abbrev Good : MaybeList → Type 0
+Good d = startAnswer (settingsFrom (begin d)) true ≡ done 0 0 0 0
+
+begins : (d : MaybeList) (r : List ℕ) → roomFor 3 16 ≤ length r → Good d → accepted (startWith (begin d) r .answer) ≡ true
+begins d r h g =
+    sym (accepted-number (startWith (begin d) r .answer) (start-numbered (begin d) r))
+    ∙ ap (λ (v : Values). eqb (v .number) 0) {y = done 0 0 0 0} (start-as (begin d) r ∙ started-as)
+  where
+    started-as : startAnswer (settingsFrom (begin d)) (leb (roomFor 3 16) (length r)) ≡ done 0 0 0 0
+    started-as = rw (le-leb (roomFor 3 16) (length r) h) g
+
+abbrev made : ℕ → Bool → MaybeList → Shown.Call
+made parent mark list =
+    Shown.change (Change·add (record { parent = parent; container = true; mark = mark; type = replicate 16 0; owner = system; group = system; list = list }))
+
+unfoldable calls-open : Unit {0}
+unfolding meant changeMeant alteration
+calls-open = tt
+
+module _ (r : List ℕ) (h : roomFor 3 16 ≤ length r) where
+  good-none : Good none
+  unfolding bytes-open entries-open lists-open compute-open model-open
+  good-none = refl
+
+  good-plain : Good (some plain-list)
+  unfolding bytes-open entries-open lists-open compute-open model-open
+  good-plain = refl
+
+  -- K8 and K9: a container with an own list below the root; the mark taken off, undone; what is read back
+  abbrev K8-calls : List Shown.Call
+  K8-calls = made 0 true (some plain-list) ∷ made 0xFFFFFFFF false (some (parentWith 0x03)) ∷ []
+
+  pub K8-answers : answersOn (Shown.undo ∷ Shown.change (alter 1 (Edit·mark false)) ∷ K8-calls) (startWith (begin none) r .bytes)
+      ≡ done 0 0 0 0 ∷ done 68 1 3 0 ∷ done 28 1 1 0 ∷ done 28 1 1 0 ∷ []
+  unfolding bytes-open entries-open lists-open copies-open last-open compute-open model-open calls-open
+  K8-answers = all-answered (begin none) r (begins none r h good-none) (Shown.undo ∷ Shown.change (alter 1 (Edit·mark false)) ∷ K8-calls)
+
+  pub K8-read : Shown.readWith computed-list 1 (playedOn K8-calls (startWith (begin none) r .bytes)) (replicate 28 0) .bytes ≡ plain-list
+  unfolding bytes-open entries-open lists-open copies-open last-open compute-open model-open calls-open
+  K8-read = demand3 (begin none) r (begins none r h good-none) K8-calls .read-back computed-list 1 (replicate 28 0)
+
+  pub K9-read : Shown.readWith computed-list 1 (playedOn (Shown.change (alter 1 (Edit·mark false)) ∷ K8-calls) (startWith (begin none) r .bytes)) (replicate 68 0) .bytes
+      ≡ bytes 0x44 3 (plain ∷ inherited 0x10 ∷ inherited 0x1B ∷ [])
+  unfolding bytes-open entries-open lists-open copies-open last-open compute-open model-open calls-open
+  K9-read = demand3 (begin none) r (begins none r h good-none) (Shown.change (alter 1 (Edit·mark false)) ∷ K8-calls) .read-back computed-list 1 (replicate 68 0)
+
+  -- a default list: that of a root without an own list, and of a child below it
+  pub default-answers : answersOn (made 0 false none ∷ made 0xFFFFFFFF false none ∷ []) (startWith (begin (some plain-list)) r .bytes)
+      ≡ done 28 1 1 0 ∷ done 28 1 1 0 ∷ []
+  unfolding bytes-open entries-open lists-open copies-open last-open compute-open model-open calls-open
+  default-answers = all-answered (begin (some plain-list)) r (begins (some plain-list) r h good-plain) (made 0 false none ∷ made 0xFFFFFFFF false none ∷ [])
