@@ -20,8 +20,9 @@ SCRIPTS ?= 20000
 PIPED ?= 1000
 SEED ?= 1
 CALLS ?= 1000000
-CARGO = cargo build --quiet --release --offline --target-dir target/cargo
-SECOND = target/cargo/release/second
+CARGO_DIR ?= target/cargo
+CARGO = cargo build --quiet --release --offline --target-dir $(CARGO_DIR)
+SECOND = $(CARGO_DIR)/release/second
 C99 = -std=c99 -Wall -Wextra -Werror -pedantic -Iinclude
 EMULATED = tools/emulated
 
@@ -95,7 +96,7 @@ stand_in: lib
 	chmod +x target/emulated/axs
 
 # each layer by itself, so that `make -j` compares several at a time
-COMPARE = target/cargo/release/compare
+COMPARE = $(CARGO_DIR)/release/compare
 compare: compare_list compare_compute compare_tree compare_deep compare_script compare_program
 
 compare_built: lib axs $(STAND_IN)
@@ -103,22 +104,22 @@ compare_built: lib axs $(STAND_IN)
 
 # that a tally under its floor, or a number that never came, fails a run
 compare_tests: compare_built
-	cargo test --quiet --release --offline --target-dir target/cargo --manifest-path compare/Cargo.toml
+	cargo test --quiet --release --offline --target-dir $(CARGO_DIR) --manifest-path compare/Cargo.toml
 
 compare_list compare_compute: compare_%: compare_built
-	$(COMPARE) $* --cases $(CASES) --seed $(SEED)
+	tools/timed $* $(COMPARE) $* --cases $(CASES) --seed $(SEED)
 
 compare_tree: compare_built
-	$(COMPARE) tree --cases $(TREES) --seed $(SEED)
+	tools/timed tree $(COMPARE) tree --cases $(TREES) --seed $(SEED)
 
 compare_deep: compare_built
-	$(COMPARE) deep --cases $(DEEP) --seed $(SEED)
+	tools/timed deep $(COMPARE) deep --cases $(DEEP) --seed $(SEED)
 
 compare_script: compare_built
-	$(COMPARE) script --cases $(SCRIPTS) --seed $(SEED)
+	tools/timed script $(COMPARE) script --cases $(SCRIPTS) --seed $(SEED)
 
 compare_program: compare_built
-	$(COMPARE) program $(AXS) --cases $(PIPED) --seed $(SEED)
+	tools/timed program $(COMPARE) program $(AXS) --cases $(PIPED) --seed $(SEED)
 
 # guard pages and valgrind watch the library; the sanitizers watch the C side
 HOSTILE = $(CC) $(C99) -D_DEFAULT_SOURCE -O1 -g hostile/*.c -L. -lpipeteasel
@@ -126,7 +127,7 @@ ifeq ($(MACHINE),x86_64)
 hostile: lib
 	$(HOSTILE) -fsanitize=address,undefined -fno-sanitize-recover=all -o target/hostile
 	target/hostile touch | grep -q 'touched byte 0 behind'
-	target/hostile $(CALLS) $(SEED)
+	tools/timed hostile target/hostile $(CALLS) $(SEED)
 	$(HOSTILE) -o target/hostile_plain
 	valgrind --error-exitcode=1 -q target/hostile_plain 3000 $(SEED) >target/hostile.txt
 else
@@ -134,7 +135,7 @@ else
 hostile: lib
 	$(HOSTILE) -fsanitize=undefined -fsanitize-undefined-trap-on-error -o target/hostile
 	$(EMULATED) target/hostile touch | grep -q 'touched byte 0 behind'
-	$(EMULATED) target/hostile $(CALLS) $(SEED)
+	tools/timed hostile $(EMULATED) target/hostile $(CALLS) $(SEED)
 	@echo "not run on a machine of this kind, $(MACHINE): the address sanitizer and valgrind"
 endif
 

@@ -10,11 +10,11 @@ use lib.Seq.{drop-drop, drop-append-le, take-append-le}
 use Rattle.list.specs.Bytes.{Bytes}
 use Rattle.list.proofs.Little.{bytes-drop}
 use Rattle.list.proofs.Tests.{off}
-use Rattle.tree.specs.Played.{callTo}
 use Rattle.script.specs.Record.{numberOf, asked, sizeOf, stepOf}
 use Rattle.script.specs.Fold.{Run, past, carried, onStep, runBy, runOf, Stage, ahead, onPiece, inPieces, joined}
 use Rattle.script.specs.declared.records.Found.{Found}
 use Rattle.script.specs.declared.records.Found.the-variants.{Cut, Bad, Record}
+use Rattle.tree.specs.Shown.{callOn}
 use Rattle.script.proofs.Steps.{size-some, size-most, never, by-step, step-record, step-cut, step-bad, step-short, step-append}
 
 -- ---- going on
@@ -115,7 +115,7 @@ bad-short =
 
 carried-append : (n : ℕ) (t u r : List ℕ) → n ≤ length t → carried n (t ++ u) r ≡ carried n t r
 unfolding carried
-carried-append n t u r h = ap (λ (a : List ℕ). callTo (asked a) r .bytes) (take-append-le n t u h)
+carried-append n t u r h = ap (λ (a : List ℕ). callOn (asked a) r .bytes) (take-append-le n t u h)
 
 -- a run with bytes behind: it stays where it met a bad record, and else goes on with what was left and those bytes
 goes-on : List ℕ → List ℕ → Run → Run

@@ -10,6 +10,7 @@ use native.Mathlib.Omega.{arith}
 use lib.ListN.{length, getD}
 use Rattle.list.proofs.Tests.{tests}
 use Rattle.inherit.specs.Asked.{MaybeList}
+use Rattle.tree.specs.Shown.{listsIn}
 use Rattle.tree.specs.declared.Answer.{Answer}
 use Rattle.tree.specs.declared.Answer.the-variants.{Done, Refused}
 use Rattle.tree.specs.Held.{hasList, bytesIn, held}
@@ -17,7 +18,6 @@ use Rattle.tree.specs.Room.{objects, slot}
 use Rattle.tree.specs.Formed.{formed}
 use Rattle.list.specs.Order.{need}
 use Rattle.tree.specs.Calls.{told, onObject, bytesIf, copied, listTo, countsTo}
-use Rattle.tree.specs.Replay.{shown}
 use Rattle.tree.proofs.Tested.{head-says, formed-parts, bytes-most}
 use Rattle.tree.proofs.Tab.{length-tab, getD-tab}
 use Rattle.script.specs.Text.{decimal, objects-text, none-text, space, newline, columnsBy, columns, line, lines, heading, listing, badLine, laidAt}
@@ -54,12 +54,12 @@ line-told i o e l = rw (← columns-told o e) l
 
 -- ---- the lists of a room
 
-pub lists-length : (r : List ℕ) → length (shown r .lists) ≡ objects r
-unfolding shown
+pub lists-length : (r : List ℕ) → length (listsIn r) ≡ objects r
+unfolding listsIn
 lists-length r = length-tab (objects r) _
 
-pub lists-at : (r : List ℕ) (i : ℕ) → i < objects r → getD (shown r .lists) i none ≡ held (slot i r)
-unfolding shown
+pub lists-at : (r : List ℕ) (i : ℕ) → i < objects r → getD (listsIn r) i none ≡ held (slot i r)
+unfolding listsIn
 lists-at r i h = getD-tab (objects r) (λ j. held (slot j r)) i none h
 
 pub objects-most : (r : List ℕ) → formed r ≡ true → objects r ≤ 64
@@ -147,7 +147,7 @@ counts-done r {n} {k} {is} e = by (formed r) refl
     by false f = let g = rw f at e in let z : _≡_ {A = ℕ} 0 1 = cc in absurd (omega arith)
 
 pub listing-done : (r out : List ℕ) → formed r ≡ true → {a : Answer} {done : List ℕ}
-    → (a ≡ written (Listed (shown r .lists)) out .answer) × (done ≡ written (Listed (shown r .lists)) out .bytes)
+    → (a ≡ written (Listed (listsIn r)) out .answer) × (done ≡ written (Listed (listsIn r)) out .bytes)
     → (a ≡ listingTo r out .answer) × (done ≡ listingTo r out .bytes)
 unfolding listingTo need
 listing-done r out f w = rw f w

@@ -1,12 +1,12 @@
 -- A script in its room: the tree is a started one, every record leaves it well formed, and a listing is of the lists worked out afresh.
-use mathlib.Core.Path.{_≡_, refl, sym, ap, _∙_}
+use mathlib.Core.Path.{_≡_, refl, sym, ap, _∙_, subst}
 use mathlib.Core.Bool.{Bool, true, false, cond}
-use mathlib.Core.List.{List, [], _∷_}
+use mathlib.Core.List.{List, [], _∷_, map}
 use mathlib.Core.Option.{some, none}
 use Prim.Native.Nat.{ℕ, zero, suc, _+_, _-_, _≤_, _<_}
 use native.Mathlib.Nat.{zero-add}
 use native.Mathlib.Omega.{arith}
-use lib.ListN.{length, take, drop, replicate, length-append, length-drop, length-replicate}
+use lib.ListN.{length, getD, take, drop, replicate, length-append, length-drop, length-replicate}
 use lib.Seq.{take-all}
 use lib.Dec.{eqb, leb}
 use borrow.Author.Tests.{leb-true, eq-eqb, ne-eqb}
@@ -15,22 +15,24 @@ use Rattle.list.proofs.Tests.{both-true}
 use Rattle.list.proofs.Writes.{front-all}
 use Rattle.inherit.specs.Asked.{MaybeList}
 use Rattle.inherit.specs.Compute.{ruleOk}
+use Rattle.tree.specs.Model.{Object, Tree, listOf, objectsOf, begun as begun-tree, after}
+use Rattle.tree.specs.Shown.{Call, settingsFrom, meant, listsIn, callOn, playedOn}
 use Rattle.tree.specs.declared.Answer.{Answer}
-use Rattle.tree.specs.Room.{limitsOk, settingsFor, emptyRoom}
+use Rattle.tree.specs.Room.{limitsOk, emptyRoom}
 use Rattle.tree.specs.Formed.{formed}
 use Rattle.list.specs.Order.{need}
 use Rattle.tree.specs.Calls.{readable, short, startOk, startTo}
-use Rattle.tree.specs.History.{Call, afresh, remains}
-use Rattle.tree.specs.Replay.{Change, rules, shown}
-use Rattle.tree.specs.Played.{accepted, played}
 use Rattle.tree.proofs.Lays.{length-settings}
-use Rattle.tree.proofs.Reaches.{Reached, reaches, keeps}
+use Rattle.tree.proofs.Modelled.{objects-length}
+use Rattle.tree.proofs.Played.{accepted}
+use Rattle.tree.proofs.Demand3.{Shows, demand3, call-keeps}
+use Rattle.script.proofs.Listings.{lists-length, lists-at}
 use Rattle.script.specs.declared.records.Found.{Found}
 use Rattle.script.specs.declared.records.Found.the-variants.{Cut, Bad, Record}
 use Rattle.script.specs.Record.{asked, stepOf}
 use Rattle.script.specs.Fold.{Run, past, carried, onStep, runBy, runOf, onCall, callsBy, callsOf, ahead, inPieces, joined}
 use Rattle.script.proofs.Folds.{run-used, pieces-same}
-use Rattle.script.specs.Play.{mapping, beginTo, fresh, Ending, Listed, BadAt, headOk, endOf, endingOf, endOfPieces, written, listingTo, playTo}
+use Rattle.script.specs.Play.{mapping, began, beginTo, fresh, Ending, Listed, BadAt, headOk, endOf, endingOf, endOfPieces, written, listingTo, playTo}
 
 -- ---- the room
 
@@ -56,13 +58,15 @@ unfolding fresh
 begin-any r h = begin-empty r h ∙ sym (begin-empty (replicate 55400 0) (length-replicate {A = ℕ} 55400 0))
 
 -- every mixture of calls on it is demand 3's
-pub script-reached : (qs : List (Call Change)) → Reached 16 16 (settingsFor 2 mapping none) fresh qs
+pub script-shows : (qs : List Call) → Shows 55400 (playedOn qs fresh) (after (begun-tree (settingsFrom began)) (map (meant 55400) qs))
 unfolding beginTo fresh
-script-reached qs = reaches 16 16 2 mapping none (replicate 55400 0) begun qs
+script-shows qs =
+    subst (λ (n : ℕ). Shows n (playedOn qs fresh) (after (begun-tree (settingsFrom began)) (map (meant n) qs))) (length-replicate {A = ℕ} 55400 0)
+    (demand3 began (replicate 55400 0) begun qs)
 
 pub fresh-formed : formed fresh ≡ true
-unfolding played
-fresh-formed = script-reached [] .well
+unfolding playedOn
+fresh-formed = script-shows [] .well
 
 -- ---- records leave a room well formed
 
@@ -77,7 +81,7 @@ unfolding runBy carried
 formed-by zero t r h = h
 formed-by (suc more) t r h =
     step-formed (stepOf t) r (λ n. runBy more (drop n t) (carried n t r)) h
-    (λ n. formed-by more (drop n t) (carried n t r) (keeps r h (asked (take n t)) .well))
+    (λ n. formed-by more (drop n t) (carried n t r) (call-keeps r h (asked (take n t))))
 
 pub run-formed : (t r : List ℕ) → formed r ≡ true → formed (runOf t r .room) ≡ true
 unfolding runOf
@@ -85,22 +89,22 @@ run-formed t r h = formed-by (suc (length t)) t r h
 
 -- ---- the room after a script is the room after the calls that it asks
 
-step-played : (x : Found) (r₀ : List ℕ) (qs : List (Call Change)) (next : ℕ → Run) (calls : ℕ → List (Call Change))
-    → ((n : ℕ) → next n .room ≡ played (calls n) r₀) → onStep x (played qs r₀) next .room ≡ played (onCall x qs calls) r₀
+step-played : (x : Found) (r₀ : List ℕ) (qs : List Call) (next : ℕ → Run) (calls : ℕ → List Call)
+    → ((n : ℕ) → next n .room ≡ playedOn (calls n) r₀) → onStep x (playedOn qs r₀) next .room ≡ playedOn (onCall x qs calls) r₀
 unfolding onStep onCall past
 step-played Cut r₀ qs next calls f = refl
 step-played Bad r₀ qs next calls f = refl
 step-played (Record n k) r₀ qs next calls f = f n
 
-played-by : (more : ℕ) (t r₀ : List ℕ) (qs : List (Call Change)) → runBy more t (played qs r₀) .room ≡ played (callsBy more t qs) r₀
-unfolding runBy callsBy carried played
+played-by : (more : ℕ) (t r₀ : List ℕ) (qs : List Call) → runBy more t (playedOn qs r₀) .room ≡ playedOn (callsBy more t qs) r₀
+unfolding runBy callsBy carried playedOn
 played-by zero t r₀ qs = refl
 played-by (suc more) t r₀ qs =
-    step-played (stepOf t) r₀ qs (λ n. runBy more (drop n t) (carried n t (played qs r₀))) (λ n. callsBy more (drop n t) (asked (take n t) ∷ qs))
+    step-played (stepOf t) r₀ qs (λ n. runBy more (drop n t) (carried n t (playedOn qs r₀))) (λ n. callsBy more (drop n t) (asked (take n t) ∷ qs))
     (λ n. played-by more (drop n t) r₀ (asked (take n t) ∷ qs))
 
-pub run-played : (t r : List ℕ) → runOf t r .room ≡ played (callsOf t) r
-unfolding runOf callsOf played
+pub run-played : (t r : List ℕ) → runOf t r .room ≡ playedOn (callsOf t) r
+unfolding runOf callsOf playedOn
 run-played t r = played-by (suc (length t)) t r []
 
 -- ---- how a script ends
@@ -121,7 +125,7 @@ pub plays-head : (s out : List ℕ) (a : Answer) (done : List ℕ) → headOk s 
 unfolding endingOf
 plays-head s out a done h w = plays s (BadAt 0) out a done (rw h refl) w
 
--- the records of s were played: so many bytes of them were whole, and left the room so
+-- the records of s were playedOn: so many bytes of them were whole, and left the room so
 pub record Ran (s : List ℕ) (used : ℕ) (room : List ℕ) : Type 0 where
   pub head : headOk s ≡ true
   pub bytes : used ≡ runOf (drop 5 s) fresh .used
@@ -151,7 +155,7 @@ module _ (s : List ℕ) (used : ℕ) (room : List ℕ) (x : Ran s used room) whe
     plays-whole l w =
         let q : 5 + used ≡ length s = omega (arith, ran-within) in
         let f : formed room ≡ true = rw (x .rooms) (run-formed (drop 5 s) fresh fresh-formed) in
-        plays s (Listed (shown room .lists)) out a done (rw (x .head, ← x .bytes, ← x .rooms, eq-eqb (5 + used) (length s) q) refl) (rw f at w)
+        plays s (Listed (listsIn room)) out a done (rw (x .head, ← x .bytes, ← x .rooms, eq-eqb (5 + used) (length s) q) refl) (rw f at w)
 
 -- ---- a script in pieces
 
@@ -180,18 +184,35 @@ listed-by : (b : Bool) (f os : List MaybeList) (n : ℕ) → cond b (Listed f) (
 listed-by true f os n h = let e : f ≡ os = cc in e
 listed-by false f os n h = let z : _≡_ {A = ℕ} 0 1 = cc in absurd (omega arith)
 
-ends-listed : (n : ℕ) (f : Run) (os : List MaybeList) → endOf n f ≡ Listed os → shown (f .room) .lists ≡ os
+ends-listed : (n : ℕ) (f : Run) (os : List MaybeList) → endOf n f ≡ Listed os → listsIn (f .room) ≡ os
 unfolding endOf
-ends-listed n f os h = listed-by (eqb (5 + f .used) n) (shown (f .room) .lists) os (5 + f .used) h
+ends-listed n f os h = listed-by (eqb (5 + f .used) n) (listsIn (f .room)) os (5 + f .used) h
 
 head-listed : (b : Bool) (e : Ending) (os : List MaybeList) → cond b e (BadAt 0) ≡ Listed os → e ≡ Listed os
 head-listed true e os h = h
 head-listed false e os h = let z : _≡_ {A = ℕ} 0 1 = cc in absurd (omega arith)
 
--- what a script lists are the lists worked out afresh from the root, of a replay of its accepted changes not since undone
-pub listed-afresh : (s : List ℕ) (os : List MaybeList) → endingOf s ≡ Listed os
-    → afresh (rules 16 (settingsFor 2 mapping none)) 16 (remains (rules 16 (settingsFor 2 mapping none)) 16 (callsOf (drop 5 s)) .done) ≡ some os
+-- the model's tree after what a script asks
+abbrev pub treeOf : List ℕ → Tree
+treeOf s = after (begun-tree (settingsFrom began)) (map (meant 55400) (callsOf (drop 5 s)))
+
+-- os are the computed lists of the model's objects, each worked out by following parents up to the root
+pub record Lists (s : Tree) (os : List MaybeList) : Type 0 where
+  pub all : length os ≡ length (objectsOf s)
+  pub each : (i : ℕ) → i < length os → listOf (s .settings) (objectsOf s) i ≡ some (getD os i none)
+
+room-lists : (qs : List Call) → Lists (after (begun-tree (settingsFrom began)) (map (meant 55400) qs)) (listsIn (playedOn qs fresh))
+room-lists qs =
+    let S = script-shows qs in
+    let r = playedOn qs fresh in
+    record {
+      all = lists-length r ∙ sym (objects-length r) ∙ ap (λ (os : List Object). length os) (S .objects-are);
+      each = λ i h. let k = rw (lists-length r) at h in S .lists-are i k ∙ ap some (sym (lists-at r i k));
+    }
+
+-- what a script lists are the model's lists after what it asks
+pub listed-afresh : (s : List ℕ) (os : List MaybeList) → endingOf s ≡ Listed os → Lists (treeOf s) os
 unfolding endingOf
 listed-afresh s os h =
     let e = ends-listed (length s) (runOf (drop 5 s) fresh) os (head-listed (headOk s) (endOf (length s) (runOf (drop 5 s) fresh)) os h) in
-    script-reached (callsOf (drop 5 s)) .lists-afresh ∙ ap (λ (r : List ℕ). some (shown r .lists)) (sym (run-played (drop 5 s) fresh)) ∙ ap some e
+    subst (Lists (treeOf s)) (ap listsIn (sym (run-played (drop 5 s) fresh)) ∙ e) (room-lists (callsOf (drop 5 s)))

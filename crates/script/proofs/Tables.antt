@@ -8,9 +8,8 @@ use lib.Dec.{eqb}
 use borrow.Author.Tests.{ne-eqb}
 use Rattle.list.specs.Bytes.{le, part, guidAt}
 use Rattle.inherit.specs.Asked.{MaybeList, lent}
-use Rattle.tree.specs.Calls.{list, mark, owners}
-use Rattle.tree.specs.History.{edit, undo}
-use Rattle.tree.specs.Replay.{add, alter}
+use Rattle.tree.specs.Shown.{change, undo}
+use Rattle.tree.specs.Calls.{list, mark, owners, add, alter}
 use Rattle.script.specs.Record.{numberOf, nameIn, nameEnd, namesEnd, listIn, listEnd, flagOk, flag, parentOf, sizeOf, formOk, newIn, asked}
 
 module _ (t : List ℕ) where
@@ -23,7 +22,7 @@ module _ (t : List ℕ) where
     unfolding formOk
     form-1 = rw h refl
 
-    pub asked-1 : asked t ≡ edit (add (newIn t))
+    pub asked-1 : asked t ≡ change (add (newIn t))
     unfolding asked
     asked-1 = rw h refl
 
@@ -36,7 +35,7 @@ module _ (t : List ℕ) where
     unfolding formOk
     form-2 = rw h refl
 
-    pub asked-2 : asked t ≡ edit (alter (getD t 1 0) (list (listIn 2 t)))
+    pub asked-2 : asked t ≡ change (alter (getD t 1 0) (list (listIn 2 t)))
     unfolding asked
     asked-2 = rw h refl
 
@@ -49,7 +48,7 @@ module _ (t : List ℕ) where
     unfolding formOk
     form-3 = rw h refl
 
-    pub asked-3 : asked t ≡ edit (alter (getD t 1 0) (mark (flag 2 t)))
+    pub asked-3 : asked t ≡ change (alter (getD t 1 0) (mark (flag 2 t)))
     unfolding asked
     asked-3 = rw h refl
 
@@ -62,7 +61,7 @@ module _ (t : List ℕ) where
     unfolding formOk
     form-4 = rw h refl
 
-    pub asked-4 : asked t ≡ edit (alter (getD t 1 0) (owners (nameIn 2 t) (nameIn (nameEnd 2 t) t)))
+    pub asked-4 : asked t ≡ change (alter (getD t 1 0) (owners (nameIn 2 t) (nameIn (nameEnd 2 t) t)))
     unfolding asked
     asked-4 = rw h refl
 

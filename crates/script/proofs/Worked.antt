@@ -2,25 +2,24 @@
 use mathlib.Core.Path.{_≡_, refl, sym, ap, _∙_}
 use mathlib.Core.Bool.{true}
 use mathlib.Core.List.{List, [], _∷_, _++_, flatten}
-use mathlib.Core.Option.{Option, some, none}
+use mathlib.Core.Option.{some, none}
 use Prim.Native.Nat.{ℕ}
-use lib.ListN.{drop, replicate}
-use Rattle.list.specs.Bytes.{le, part, putAt}
+use native.Mathlib.Omega.{arith}
+use lib.ListN.{length, getD, drop, replicate}
+use Rattle.list.specs.Bytes.{le, part}
 use Rattle.inherit.specs.Asked.{MaybeList}
 use Rattle.inherit.proofs.Worked.{system, parentWith}
-use Rattle.tree.specs.General.{rest}
-use Rattle.tree.specs.Room.{settingsFor}
-use Rattle.tree.specs.Formed.{placed}
-use Rattle.tree.specs.Calls.{short, list, mark, owners, editAt, editBytes, nobody}
-use Rattle.tree.specs.History.{edit, undo, replay, afresh, noted, unnoted, next, remains}
-use Rattle.tree.specs.Replay.{alter, reads, fine, change, rules, shown}
-use Rattle.tree.proofs.Worked.{lists, bytes-open, entries-open, lists-open, copies-open, last-open, compute-open, tree-open}
+use Rattle.tree.specs.Shown.{change, undo, listsIn}
+use Rattle.tree.specs.Model.{listOf, objectsOf}
+use Rattle.tree.specs.Calls.{list, mark, owners, nobody, alter}
+use Rattle.tree.proofs.Worked.{lists, bytes-open, entries-open, lists-open, copies-open, last-open, compute-open}
+use Rattle.tree.proofs.Trees.{model-open, calls-open}
 use Rattle.script.specs.declared.records.Found.the-variants.{Cut, Bad, Record}
 use Rattle.script.specs.Record.{nameEnd, listEnd, parentOf, sizeOf, formOk, asked, stepOf}
 use Rattle.script.specs.Fold.{past, onStep, runBy, runOf, onCall, callsBy, callsOf}
 use Rattle.script.specs.Text.{digits, decimal, columnsBy, columns, line, lines, heading, listing, badLine}
 use Rattle.script.specs.Play.{mapping, headOk, Listed, endOf, fresh, endingOf, textOf}
-use Rattle.script.proofs.Plays.{listed-afresh}
+use Rattle.script.proofs.Plays.{treeOf, listed-afresh}
 
 -- ---- records
 
@@ -41,10 +40,10 @@ steps-worked = (refl, (refl, (refl, (refl, (refl, (refl, (refl, (refl, (refl, re
 
 -- a length of 0 removes the list; FF is no parent, and an object's number like any other
 pub asked-worked :
-    (asked (2 ∷ 7 ∷ 0 ∷ 0 ∷ []) ≡ edit (alter 7 (list none)))
-    × ((asked (2 ∷ 0xFF ∷ 1 ∷ 0 ∷ 9 ∷ []) ≡ edit (alter 255 (list (some (9 ∷ [])))))
-    × ((asked (3 ∷ 1 ∷ 1 ∷ []) ≡ edit (alter 1 (mark true)))
-    × ((asked (4 ∷ 0 ∷ 0 ∷ 2 ∷ 7 ∷ 8 ∷ []) ≡ edit (alter 0 (owners [] (7 ∷ 8 ∷ []))))
+    (asked (2 ∷ 7 ∷ 0 ∷ 0 ∷ []) ≡ change (alter 7 (list none)))
+    × ((asked (2 ∷ 0xFF ∷ 1 ∷ 0 ∷ 9 ∷ []) ≡ change (alter 255 (list (some (9 ∷ [])))))
+    × ((asked (3 ∷ 1 ∷ 1 ∷ []) ≡ change (alter 1 (mark true)))
+    × ((asked (4 ∷ 0 ∷ 0 ∷ 2 ∷ 7 ∷ 8 ∷ []) ≡ change (alter 0 (owners [] (7 ∷ 8 ∷ []))))
     × ((asked (5 ∷ []) ≡ undo) × ((parentOf 0xFF ≡ nobody) × (parentOf 0xFE ≡ 254))))))
 unfolding le part nameEnd listEnd parentOf asked
 asked-worked = (refl, (refl, (refl, (refl, (refl, (refl, refl))))))
@@ -84,27 +83,30 @@ abbrev document : List ℕ
 document = 0x41 ∷ 0x58 ∷ 0x53 ∷ 1 ∷ 0 ∷ records
 
 -- its two records are whole, and no byte is left
-whole : endingOf document ≡ Listed (shown (runOf records fresh .room) .lists)
+whole : endingOf document ≡ Listed (listsIn (runOf records fresh .room))
 unfolding le flatten nameEnd listEnd sizeOf formOk stepOf past onStep runBy runOf headOk endOf endingOf
 whole = refl
 
--- what its changes and its records open, beside what a tree does
-past-open : Unit {0}
-unfolding placed short editAt editBytes rest replay afresh noted unnoted next remains reads fine change rules
-past-open = tt
-
+-- what its records open, beside what a tree does
 records-open : Unit {0}
-unfolding putAt nameEnd listEnd parentOf sizeOf formOk asked stepOf onCall callsBy callsOf
+unfolding nameEnd listEnd parentOf sizeOf formOk asked stepOf onCall callsBy callsOf calls-open model-open
 records-open = tt
 
--- what is worked out afresh from its two changes
-afresh-worked :
-    afresh (rules 16 (settingsFor 2 mapping none)) 16 (remains (rules 16 (settingsFor 2 mapping none)) 16 (callsOf (drop 5 document)) .done) ≡ some lists
-unfolding bytes-open entries-open lists-open copies-open last-open compute-open tree-open past-open records-open
-afresh-worked = refl
+-- what the model says of its two records: two objects, and their lists
+document-lists : (listOf (treeOf document .settings) (objectsOf (treeOf document)) 0 ≡ some (getD lists 0 none))
+    × ((listOf (treeOf document .settings) (objectsOf (treeOf document)) 1 ≡ some (getD lists 1 none)) × (length (objectsOf (treeOf document)) ≡ 2))
+unfolding bytes-open entries-open lists-open copies-open last-open compute-open records-open
+document-lists = (refl, (refl, refl))
 
-some-same : (a b : List MaybeList) → _≡_ {A = Option (List MaybeList)} (some a) (some b) → a ≡ b
-some-same a b h = let e : a ≡ b = cc in e
+-- two lists that are these are all
+two-lists : (os : List MaybeList) (a b : MaybeList) → length os ≡ 2 → some (getD os 0 none) ≡ some a → some (getD os 1 none) ≡ some b → os ≡ a ∷ b ∷ []
+two-lists [] a b n p q = absurd (omega arith)
+two-lists (x ∷ []) a b n p q = absurd (omega arith)
+two-lists (x ∷ y ∷ []) a b n p q =
+    let e : x ≡ a = cc in
+    let f : y ≡ b = cc in
+    rw (e, f) refl
+two-lists (x ∷ y ∷ z ∷ os) a b n p q = absurd (omega arith)
 
 -- the three lines of document 01, byte for byte
 pub document-listed :
@@ -114,6 +116,8 @@ pub document-listed :
     ∷ 49 ∷ 32 ∷ 52 ∷ 56 ∷ 32 ∷ 50 ∷ 10 ∷ []
 unfolding le digits decimal columnsBy columns line lines heading listing textOf flatten
 document-listed =
-    let a = listed-afresh document (shown (runOf records fresh .room) .lists) whole in
-    let e = some-same (shown (runOf records fresh .room) .lists) lists (sym a ∙ afresh-worked) in
+    let L = listed-afresh document (listsIn (runOf records fresh .room)) whole in
+    let n = L .all ∙ document-lists .1 .1 in
+    let e : listsIn (runOf records fresh .room) ≡ lists =
+    two-lists _ _ _ n (sym (L .each 0 (omega arith)) ∙ document-lists .0) (sym (L .each 1 (omega arith)) ∙ document-lists .1 .0) in
     ap textOf (whole ∙ ap Listed e) ∙ refl

@@ -3,9 +3,8 @@ use Prim.Native.Nat.{ℕ, zero, suc, _+_}
 use mathlib.Core.List.{List, [], _∷_, _++_}
 use mathlib.Core.Bool.{Bool, true, false, cond}
 use lib.ListN.{length, take, drop}
-use Rattle.tree.specs.History.{Call}
-use Rattle.tree.specs.Replay.{Change}
-use Rattle.tree.specs.Played.{callTo}
+use Rattle.tree.specs.Shown.{Call, callOn}
+use Rattle.tree.specs.Calls.{Change}
 use Rattle.script.specs.declared.records.Found.{Found}
 use Rattle.script.specs.declared.records.Found.the-variants.{Cut, Bad, Record}
 use Rattle.script.specs.Record.{asked, stepOf}
@@ -22,7 +21,7 @@ past n f = record { used = n + f .used; bad = f .bad; room = f .room }
 
 -- the record in the first n bytes of t is carried out; where the tree refuses it, it is passed over
 unfoldable pub carried : ℕ → List ℕ → List ℕ → List ℕ
-carried n t r = callTo (asked (take n t)) r .bytes
+carried n t r = callOn (asked (take n t)) r .bytes
 
 -- a run stops at a record that is cut or bad, and goes on after a whole one
 unfoldable pub onStep : Found → List ℕ → (ℕ → Run) → Run
@@ -41,16 +40,16 @@ runOf t r = runBy (suc (length t)) t r
 
 -- ---- what a script asks: the calls of its whole records, the latest first, in front of the calls qs that came earlier
 
-unfoldable pub onCall : Found → List (Call Change) → (ℕ → List (Call Change)) → List (Call Change)
+unfoldable pub onCall : Found → List Call → (ℕ → List Call) → List Call
 onCall Cut qs next = qs
 onCall Bad qs next = qs
 onCall (Record n k) qs next = next n
 
-unfoldable pub callsBy : ℕ → List ℕ → List (Call Change) → List (Call Change)
+unfoldable pub callsBy : ℕ → List ℕ → List Call → List Call
 callsBy zero t qs = qs
 callsBy (suc more) t qs = onCall (stepOf t) qs (λ n. callsBy more (drop n t) (asked (take n t) ∷ qs))
 
-unfoldable pub callsOf : List ℕ → List (Call Change)
+unfoldable pub callsOf : List ℕ → List Call
 callsOf t = callsBy (suc (length t)) t []
 
 -- ---- a script's records handed over in pieces: what is left of one piece stands in front of the next
@@ -65,7 +64,7 @@ pub record Stage : Type 0 where
 unfoldable pub ahead : ℕ → List ℕ → Run → Stage
 ahead at t f = record { at = at + f .used; left = drop (f .used) t; bad = f .bad; room = f .room }
 
--- once a record is bad nothing more is played
+-- once a record is bad nothing more is playedOn
 unfoldable pub onPiece : Stage → List ℕ → Stage
 onPiece g p = cond (g .bad) (record { at = g .at; left = g .left ++ p; bad = true; room = g .room }) (ahead (g .at) (g .left ++ p) (runOf (g .left ++ p) (g .room)))
 

@@ -1,4 +1,4 @@
--- A whole script, played in a room of its own.
+-- A whole script, playedOn in a room of its own.
 use Prim.Native.Nat.{ℕ, _+_}
 use mathlib.Core.List.{List}
 use mathlib.Core.Bool.{Bool, true, false, cond, _&&_}
@@ -8,12 +8,12 @@ use lib.Dec.{eqb, leb}
 use Rattle.list.specs.Bytes.{le}
 use Rattle.inherit.specs.declared.Mapping.{Mapping}
 use Rattle.inherit.specs.Asked.{MaybeList}
+use Rattle.tree.specs.Shown.{Begin, startWith, listsIn}
 use Rattle.tree.specs.declared.Answer.{Answer}
 use Rattle.tree.specs.declared.Answer.the-variants.{Done}
 use Rattle.tree.specs.Formed.{formed}
 use Rattle.list.specs.Order.{need}
-use Rattle.tree.specs.Calls.{Outcome, copied, startTo, refuse}
-use Rattle.tree.specs.Replay.{shown}
+use Rattle.tree.specs.Calls.{Outcome, copied, refuse}
 use Rattle.script.specs.Fold.{Run, runOf, Stage}
 use Rattle.script.specs.Text.{listing, badLine}
 
@@ -22,8 +22,11 @@ abbrev pub mapping : Mapping
 mapping = record { read = 0x00120089; write = 0x00120116; execute = 0x001200A0; all = 0x001F01FF }
 
 -- the program's tree: limits 16 and 16, rule 2, that mapping, no default
+abbrev pub began : Begin
+began = record { objects = 16; steps = 16; rule = 2; mapping = mapping; default = none }
+
 unfoldable pub beginTo : List ℕ → Outcome
-beginTo r = startTo 16 16 2 mapping none r
+beginTo r = startWith began r
 
 -- `AXS` and the 16-bit version 1
 unfoldable pub headOk : List ℕ → Bool
@@ -41,9 +44,9 @@ pub data Ending : Type 0 where
 
 -- all bytes were whole records, or one that is bad or cut begins where they end
 unfoldable pub endOf : ℕ → Run → Ending
-endOf n f = cond (eqb (5 + f .used) n) (Listed (shown (f .room) .lists)) (BadAt (5 + f .used))
+endOf n f = cond (eqb (5 + f .used) n) (Listed (listsIn (f .room))) (BadAt (5 + f .used))
 
--- the room that a script is played in
+-- the room that a script is playedOn in
 unfoldable pub fresh : List ℕ
 fresh = beginTo (replicate 55400 0) .bytes
 
@@ -52,7 +55,7 @@ endingOf s = cond (headOk s) (endOf (length s) (runOf (drop 5 s) fresh)) (BadAt 
 
 -- the same of a script whose records were handed over in pieces
 unfoldable pub endOfPieces : Stage → Ending
-endOfPieces g = cond (eqb (length (g .left)) 0) (Listed (shown (g .room) .lists)) (BadAt (5 + g .at))
+endOfPieces g = cond (eqb (length (g .left)) 0) (Listed (listsIn (g .room))) (BadAt (5 + g .at))
 
 -- the text that a run writes
 unfoldable pub textOf : Ending → List ℕ
@@ -71,7 +74,7 @@ written e out = copied (answerFor e) (textOf e) out
 
 -- a room's listing: 13, 8
 unfoldable pub listingTo : List ℕ → List ℕ → Outcome
-listingTo r out = need (formed r) (refuse 13 0 0 out) (written (Listed (shown r .lists)) out)
+listingTo r out = need (formed r) (refuse 13 0 0 out) (written (Listed (listsIn r)) out)
 
 -- a whole script: 8
 unfoldable pub playTo : List ℕ → List ℕ → Outcome

@@ -6,10 +6,9 @@ use lib.ListN.{length, getD, drop}
 use lib.Dec.{eqb, leb}
 use Rattle.list.specs.Bytes.{le, part, guidAt}
 use Rattle.inherit.specs.Asked.{MaybeList, lent}
+use Rattle.tree.specs.Shown.{Call, change, undo}
 use Rattle.tree.specs.Held.{New}
-use Rattle.tree.specs.Calls.{list, mark, owners, nobody}
-use Rattle.tree.specs.History.{Call, edit, undo}
-use Rattle.tree.specs.Replay.{Change, add, alter}
+use Rattle.tree.specs.Calls.{list, mark, owners, nobody, Change, add, alter}
 use Rattle.script.specs.declared.records.Found.{Found}
 use Rattle.script.specs.declared.records.Found.the-variants.{Cut, Bad, Record}
 
@@ -87,12 +86,12 @@ newIn t =
     }
 
 -- what a whole record of good form asks of a tree: the number that is left is 5, undo
-unfoldable pub asked : List ℕ → Call Change
+unfoldable pub asked : List ℕ → Call
 asked t =
-    cond (eqb (numberOf t) 1) (edit (add (newIn t)))
-    (cond (eqb (numberOf t) 2) (edit (alter (getD t 1 0) (list (listIn 2 t))))
-    (cond (eqb (numberOf t) 3) (edit (alter (getD t 1 0) (mark (flag 2 t))))
-    (cond (eqb (numberOf t) 4) (edit (alter (getD t 1 0) (owners (nameIn 2 t) (nameIn (nameEnd 2 t) t))))
+    cond (eqb (numberOf t) 1) (change (add (newIn t)))
+    (cond (eqb (numberOf t) 2) (change (alter (getD t 1 0) (list (listIn 2 t))))
+    (cond (eqb (numberOf t) 3) (change (alter (getD t 1 0) (mark (flag 2 t))))
+    (cond (eqb (numberOf t) 4) (change (alter (getD t 1 0) (owners (nameIn 2 t) (nameIn (nameEnd 2 t) t))))
     undo)))
 
 -- the record at the front of t: cut where bytes of it are missing, bad by its form, else its length and its number

@@ -2,8 +2,8 @@
 ghost use mathlib.Core.Path.{_≡_};
 ghost use Prim.Native.Nat.{_+_, _≤_};
 ghost use lib.ListN.{getD};
+ghost use Rattle.tree.specs.Shown.{undo, callOn};
 ghost use Rattle.tree.specs.Calls.{list as Edit·list, owners as Edit·owners, addTo, alterTo};
-ghost use Rattle.tree.specs.Played.{callTo};
 ghost use Rattle.script.specs.Record.{nameIn, nameEnd, listIn, listEnd, flagOk, flag as Record·flag, parentOf, sizeOf, formOk, newIn, asked, stepOf};
 use list::byte_in;
 use list::guid_at;
@@ -166,7 +166,7 @@ fn set_owner(room: &mut [u8], t: &[u8]) -> Answer
 
 // What a whole record asks of the tree.
 pub(crate) fn carry_out(room: &mut [u8], t: &[u8]) -> Answer
-    ensures { λ a. ⌜ (a ≡ callTo (asked (now (t .entry))) (now (room .entry)) .answer) × (now (room .exit) ≡ callTo (asked (now (t .entry))) (now (room .entry)) .bytes) ⌝ }
+    ensures { λ a. ⌜ (a ≡ callOn (asked (now (t .entry))) (now (room .entry)) .answer) × (now (room .exit) ≡ callOn (asked (now (t .entry))) (now (room .entry)) .bytes) ⌝ }
 {
     let number = byte_in(t, 0);
     if number == 1 {

@@ -5,10 +5,10 @@ ghost use mathlib.Core.Bool.{true, false};
 ghost use mathlib.Core.List.{_++_};
 ghost use Prim.Native.Nat.{_+_, _≤_, _<_};
 ghost use lib.ListN.{length, drop};
+ghost use Rattle.tree.specs.Shown.{listsIn};
 ghost use Rattle.tree.specs.Formed.{formed};
 ghost use Rattle.tree.specs.Room.{objects, slot};
 ghost use Rattle.tree.specs.Held.{held};
-ghost use Rattle.tree.specs.Replay.{shown};
 ghost use Rattle.tree.specs.declared.Answer.the-variants.{Refused as Answer·Refused};
 ghost use Rattle.script.specs.Text.{decimal as Text·decimal, line, listing as Text·listing, badLine, laidAt, newline, columnsBy};
 ghost use Rattle.script.specs.Play.{Listed as Ending·Listed, BadAt as Ending·BadAt, written, listingTo};
@@ -92,7 +92,7 @@ fn put_line(out: &mut [u8], at: usize, room: &[u8], i: usize) -> usize
 // Puts the listing of n objects on the front and says how long it is.
 fn lay_listing(room: &[u8], n: usize, out: &mut [u8]) -> usize
     requires { ⌜ (formed (now room) ≡ true) × (n ≡ objects (now room)) ⌝ }
-    ensures { λ r. ⌜ (r ≡ length (Text·listing (shown (now (room .entry)) .lists))) × ((r ≤ 5000) × (now (out .exit) ≡ laidAt 0 (Text·listing (shown (now (room .entry)) .lists)) (now (out .entry)))) ⌝ }
+    ensures { λ r. ⌜ (r ≡ length (Text·listing (listsIn (now (room .entry))))) × ((r ≤ 5000) × (now (out .exit) ≡ laidAt 0 (Text·listing (listsIn (now (room .entry)))) (now (out .entry)))) ⌝ }
 {
     let a = put_bytes(out, 0, b"objects ");
     let b = put_decimal(out, a, n as u64);
@@ -108,7 +108,7 @@ fn lay_listing(room: &[u8], n: usize, out: &mut [u8]) -> usize
 // Measures the listing, and writes it where there is room.
 fn give_listing(room: &[u8], n: u16, out: &mut [u8]) -> Answer
     requires { ⌜ (formed (now room) ≡ true) × (n ≡ objects (now room)) ⌝ }
-    ensures { λ a. ⌜ (a ≡ written (Ending·Listed (shown (now (room .entry)) .lists)) (now (out .entry)) .answer) × (now (out .exit) ≡ written (Ending·Listed (shown (now (room .entry)) .lists)) (now (out .entry)) .bytes) ⌝ }
+    ensures { λ a. ⌜ (a ≡ written (Ending·Listed (listsIn (now (room .entry)))) (now (out .entry)) .answer) × (now (out .exit) ≡ written (Ending·Listed (listsIn (now (room .entry)))) (now (out .entry)) .bytes) ⌝ }
 {
     let long = lay_listing(room, n as usize, &mut [0u8; 1]);
     if out.len() < long {

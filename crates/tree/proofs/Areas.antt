@@ -8,9 +8,9 @@ use lib.Seq.{getD-take, length-take-le, take-at}
 use Rattle.list.specs.Bytes.{part, front}
 use Rattle.list.proofs.Places.{part-of-take}
 use Rattle.list.proofs.Writes.{length-front}
+use Rattle.tree.specs.General.{tab}
 use Rattle.tree.specs.Room.{limit, depth, ownAt, slotAt, stepsAt, roomFor, settings, own, slot, step, area}
 use Rattle.tree.specs.Formed.{Head}
-use Rattle.tree.specs.Replay.{tab}
 use Rattle.tree.proofs.Tab.{tab-ext}
 
 -- a room that is its own area

@@ -13,10 +13,10 @@ use lib.Seq.{getD-set-same}
 use borrow.Author.Tests.{eq-eqb, ne-eqb}
 use Rattle.list.specs.Bytes.{part, putAt}
 use Rattle.list.proofs.Places.{split, length-part, length-put, part-put-before, part-put-after, part-put-on, put-whole, byte-same}
+use Rattle.tree.specs.General.{tab}
 use Rattle.tree.specs.Held.{held, slotOk}
 use Rattle.tree.specs.Room.{limit, depth, objects, kept, ownAt, stepsAt, settings, own, slot, step, numberOf, savedIn}
 use Rattle.tree.specs.Calls.{pushed, popped, settled, changed, latest, left, undone}
-use Rattle.tree.specs.Replay.{tab}
 use Rattle.tree.proofs.Tab.{tab-ext}
 use Rattle.tree.proofs.Paths.{inOrder}
 use Rattle.tree.proofs.Applied.{upd, ahead}

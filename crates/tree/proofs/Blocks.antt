@@ -15,7 +15,7 @@ use Rattle.inherit.specs.Compute.{ordinary}
 use Rattle.tree.specs.Held.{held, slotFor, slotOk, idIn, idFor, idOk, parentOf, kindOf, markOf, typeOf, ownerOf, groupOf, ownSlot, ownList}
 use Rattle.tree.specs.Held.{blockOk, New, yes, blockFor}
 use Rattle.tree.specs.Calls.{short}
-use Rattle.tree.specs.Replay.{reads}
+use Rattle.tree.proofs.Replay.{reads}
 use Rattle.tree.proofs.Lays.{length-slot}
 use Rattle.tree.proofs.Slots.{held-slot, slot-good, id-length, id-held, id-good}
 

@@ -26,7 +26,7 @@ use Rattle.tree.specs.Held.{held, slotFor, slotOk, isDone, typeOf, ownSl
 use Rattle.tree.specs.Room.{ruleOf, defaultOf}
 use Rattle.tree.specs.Work.{askedIn, taken, computed}
 use Rattle.tree.specs.Calls.{short}
-use Rattle.tree.specs.Replay.{reads}
+use Rattle.tree.proofs.Replay.{reads}
 use Rattle.tree.proofs.Lays.{length-slot}
 use Rattle.tree.proofs.Slots.{held-slot, slot-good, slot-reads, id-ordinary}
 use Rattle.tree.proofs.Blocks.{length-guid, block-sound}

@@ -20,18 +20,18 @@ use Rattle.tree.specs.General.{isSome, rest, bind}
 use Rattle.tree.specs.Held.{held}
 use Rattle.tree.specs.Room.{limit, depth, objects, kept, roomFor, limitsOk, settings, settingsFor, slot, emptyRoom}
 use Rattle.tree.specs.Formed.{formed}
-use Rattle.tree.specs.Calls.{Outcome, refuse, short, startOk, startTo, undoTo, answerValues, countsTo}
-use Rattle.tree.specs.History.{Call as Step, edit, undo as take-back, Past, remains, next, noted, unnoted, accepts, afresh}
-use Rattle.tree.specs.Replay.{Change, add, alter, reads, rules, work, shown}
-use Rattle.tree.specs.Played.{callTo, accepted, played}
+use Rattle.tree.specs.Calls.{Outcome, refuse, short, startOk, startTo, undoTo, answerValues, countsTo, Change, add, alter}
+use Rattle.tree.proofs.History.{Call as Step, edit, undo as take-back, Past, remains, next, noted, unnoted, accepts, afresh}
+use Rattle.tree.proofs.Replay.{reads, rules, work, shown}
+use Rattle.tree.proofs.Played.{callTo, accepted, played}
 use Rattle.tree.specs.Model as Model
-use Rattle.tree.specs.Shown.{Begin, settingsIn, settingsFrom, objectsIn, changeMeant, Call, start, change, undo, read, counts, meant, startWith, changeWith, readWith, answerTo, roomAfter, playedOn}
+use Rattle.tree.specs.Shown.{Begin, settingsIn, settingsFrom, objectsIn, changeMeant, Call, start, change, undo, read, counts, meant, startWith, changeWith, readWith, callOn, answerTo, playedOn}
 use Rattle.tree.proofs.Tab.{getD-tab}
 use Rattle.tree.proofs.Settings.{rule-of, mapping-of, default-of}
 use Rattle.tree.proofs.Keeps.{Formed, formed-facts}
 use Rattle.tree.proofs.Answered.{start-facts}
 use Rattle.tree.proofs.Plays.{Passes, on, stop, then, need-first, reads-first, call-ends}
-use Rattle.tree.proofs.Reaches.{Reached, Begun, begun, start-stays, reaches}
+use Rattle.tree.proofs.Reaches.{Reached, Begun, begun, start-stays, reaches, keeps}
 use Rattle.tree.proofs.Likeness.{Good, objectsFrom, replay-like}
 use Rattle.tree.proofs.Modelled.{said, readable-as, test-as, short-is, objects-shown, shown-length, objects-length, lists-like, change-as}
 use Rattle.tree.proofs.Reading.{ReadAs, part-as, counts-as}
@@ -160,7 +160,7 @@ module _ (b : Begin) (r : List ℕ) (h : accepted (startWith b r .answer) ≡ tr
   counts-said qs = counts-as (room qs) (F qs) ∙ rw (objects-as qs, H qs .steps-left) refl
 
   all-said : (qs : List (Step Change)) (q : Call) → answerTo q (room qs) ≡ Model.answer (tree qs) (meant (length (room qs)) q)
-  unfolding answerTo Model.answer meant
+  unfolding callOn Model.answer meant
   all-said qs (start c) = start-as c (room qs)
   all-said qs (change c) = change-said qs c
   all-said qs undo = undo-said qs
@@ -297,8 +297,8 @@ module _ {long : ℕ} {r : List ℕ} {s : Model.Tree} (f : Follows long r s) whe
   follows-begin b false h =
       subst (λ (x : List ℕ). Follows long x s) (sym (start-stays (b .objects) (b .steps) (b .rule) (b .mapping) (b .default) r h)) f
 
-  follows-call : (q : Call) → Follows long (roomAfter q r) (Model.next s (meant long q))
-  unfolding roomAfter meant
+  follows-call : (q : Call) → Follows long (callOn q r .bytes) (Model.next s (meant long q))
+  unfolding callOn meant
   follows-call (start b) = follows-begin′ b
     where
       start-accepted : (b : Begin) → Model.accepted (Model.answer s (Model.start (settingsFrom b) (leb (roomFor (b .objects) (b .steps)) long))) ≡ accepted (startWith b r .answer)
@@ -321,3 +321,16 @@ follows-all b r h (q ∷ qs) = follows-call (follows-all b r h qs) q
 pub demand3 : (b : Begin) (r : List ℕ) → accepted (startWith b r .answer) ≡ true → (qs : List Call)
     → Shows (length r) (playedOn qs (startWith b r .bytes)) (Model.after (Model.begun (settingsFrom b)) (map (meant (length r)) qs))
 demand3 b r h qs = T (follows-all b r h qs)
+
+-- every call leaves a well-formed room well formed, reached by calls or not
+pub call-keeps : (r : List ℕ) → formed r ≡ true → (q : Call) → formed (callOn q r .bytes) ≡ true
+unfolding callOn playedOn callTo
+call-keeps r f (start b) = by (accepted (startWith b r .answer)) refl
+  where
+    by : (x : Bool) → accepted (startWith b r .answer) ≡ x → formed (startWith b r .bytes) ≡ true
+    by true h = demand3 b r h [] .well
+    by false h = rw (start-stays (b .objects) (b .steps) (b .rule) (b .mapping) (b .default) r h) f
+call-keeps r f (change c) = subst (λ (o : Outcome). formed (o .bytes) ≡ true) (call-change c r) (keeps r f (edit c) .well)
+call-keeps r f undo = keeps r f take-back .well
+call-keeps r f (read x i out) = f
+call-keeps r f counts = f

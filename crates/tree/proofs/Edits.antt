@@ -13,7 +13,7 @@ use Rattle.inherit.specs.Asked.{MaybeList}
 use Rattle.inherit.specs.Compute.{ordinary}
 use Rattle.tree.specs.Held.{slotFor, idFor, parentOf, kindOf, markOf, typeOf, ownerOf, groupOf, ownSlot, ownList, blockOk, yes}
 use Rattle.tree.specs.Calls.{Edit, list, mark, owners, editAt, editBytes, short}
-use Rattle.tree.specs.Replay.{reads, fine}
+use Rattle.tree.proofs.Replay.{reads, fine}
 use Rattle.tree.proofs.Applied.{Alike}
 use Rattle.tree.proofs.Lays.{length-slot}
 use Rattle.tree.proofs.Slots.{held-slot, slot-good, id-length, id-held, id-good}

@@ -17,13 +17,13 @@ use Rattle.list.proofs.Tests.{off}
 use Rattle.inherit.specs.Asked.{MaybeList}
 use Rattle.tree.specs.declared.Answer.{Answer}
 use Rattle.tree.specs.declared.Answer.the-variants.{Done, Refused}
-use Rattle.tree.specs.General.{isSome}
+use Rattle.tree.specs.General.{isSome, tab}
 use Rattle.tree.specs.Room.{limit, depth, objects, kept, settings, own, step, tagOf, numberOf, savedIn, area}
 use Rattle.tree.specs.Formed.{Head, stepsOk, formed}
-use Rattle.tree.specs.Calls.{Outcome, finishUndo, undone, undoTo, answerValues}
-use Rattle.tree.specs.History.{undo, settled, after, undone as undone-by}
-use Rattle.tree.specs.Replay.{Change, Blocks, Undo, back, undoIn, when, work, rules, tab, shown, Tree}
-use Rattle.tree.specs.Played.{callTo, accepted}
+use Rattle.tree.specs.Calls.{Outcome, finishUndo, undone, undoTo, answerValues, Change}
+use Rattle.tree.proofs.History.{undo, settled, after, undone as undone-by}
+use Rattle.tree.proofs.Replay.{Blocks, Undo, back, undoIn, when, work, rules, shown, Tree}
+use Rattle.tree.proofs.Played.{callTo, accepted}
 use Rattle.tree.specs.Model as Model
 use Rattle.tree.specs.Shown.{settingsIn, objectIn, objectsIn, objectsBack, changeMeant, changeWith}
 use Rattle.tree.proofs.Applied.{upd, upd-same, upd-other, Adds, Again}

@@ -11,8 +11,8 @@ use native.Mathlib.Omega.{arith}
 use lib.ListN.{length, take}
 use lib.Seq.{length-take-le}
 use Rattle.tree.specs.General.{bind, isSome, orElse, rest}
-use Rattle.tree.specs.History.{Call, edit, undo, Rules, Lawful, State, Past, settled, edited, undone, after, start}
-use Rattle.tree.specs.History.{run, replay, afresh, noted, unnoted, next, remains, positive, accepts}
+use Rattle.tree.proofs.History.{Call, edit, undo, Rules, Lawful, State, Past, settled, edited, undone, after, start}
+use Rattle.tree.proofs.History.{run, replay, afresh, noted, unnoted, next, remains, positive, accepts}
 
 take-min : {A : Type 0} (a b : ℕ) (l : List A) → take a (take b l) ≡ take (min a b) l
 take-min zero b l = rw zero-min

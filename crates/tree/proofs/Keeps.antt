@@ -8,10 +8,11 @@ use native.Mathlib.Omega.{arith}
 use lib.ListN.{length, getD}
 use Rattle.list.specs.Bytes.{front}
 use Rattle.list.proofs.Tests.{both-true}
+use Rattle.tree.specs.General.{tab}
 use Rattle.tree.specs.Held.{held, blockOk, slotOk, parentOf}
 use Rattle.tree.specs.Room.{limit, depth, objects, kept, roomFor, settings, own, slot, step, area}
 use Rattle.tree.specs.Formed.{Head, settingsOk, placed, objectOk, stepsOk, formed}
-use Rattle.tree.specs.Replay.{work, tab, undoIn, shown}
+use Rattle.tree.proofs.Replay.{work, undoIn, shown}
 use Rattle.tree.proofs.Tested.{head-says, head-said, formed-parts, formed-from}
 use Rattle.tree.proofs.Applied.{every-at, every-all, alike-same, steps-same, steps-shift}
 use Rattle.tree.proofs.Turns.{Owned, owned-off, owned-ordered}

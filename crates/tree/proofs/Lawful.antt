@@ -12,9 +12,9 @@ use Rattle.list.specs.Bytes.{putAt}
 use Rattle.inherit.specs.Compute.{ordinary}
 use Rattle.tree.specs.Held.{blockFor}
 use Rattle.tree.specs.Formed.{placed}
-use Rattle.tree.specs.Calls.{short, editAt, editBytes, nobody}
-use Rattle.tree.specs.History.{Lawful}
-use Rattle.tree.specs.Replay.{Blocks, Change, add, alter, reads, fine, when, change, keep, back, gather, work, rules}
+use Rattle.tree.specs.Calls.{short, editAt, editBytes, nobody, Change, add, alter}
+use Rattle.tree.proofs.History.{Lawful}
+use Rattle.tree.proofs.Replay.{Blocks, reads, fine, when, change, keep, back, gather, work, rules}
 
 -- what is there under a test
 when-is : {A : Type 0} (b : Bool) (x y : A) → when b x ≡ some y → x ≡ y

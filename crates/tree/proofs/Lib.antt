@@ -1,3 +1,6 @@
+pub mod History
+pub mod Replay
+pub mod Played
 pub mod Tested
 pub mod Lays
 pub mod Kept

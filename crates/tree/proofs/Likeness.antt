@@ -26,10 +26,10 @@ use Rattle.tree.specs.Room.{ruleOf, defaultOf}
 use Rattle.tree.specs.Formed.{placed}
 use Rattle.tree.specs.Work.{askedIn, taken, computed}
 use Rattle.tree.proofs.Computed.{all-passed, computed-reads}
-use Rattle.tree.specs.Calls.{Edit, list, mark, owners, editAt, editBytes, short, nobody}
+use Rattle.tree.specs.Calls.{Edit, list, mark, owners, editAt, editBytes, short, nobody, Change, add, alter}
 use Rattle.tree.specs.General.{bind, isSome, every}
-use Rattle.tree.specs.History.{replay}
-use Rattle.tree.specs.Replay.{Blocks, Change, add, alter, reads, fine, when, change, rules, fromRoot, gather, work}
+use Rattle.tree.proofs.History.{replay}
+use Rattle.tree.proofs.Replay.{Blocks, reads, fine, when, change, rules, fromRoot, gather, work}
 use Rattle.tree.proofs.Blocks.{Shows, new-shows, new-good}
 use Rattle.tree.proofs.Edits.{edited, list-shows, mark-shows, owners-shows, edit-keeps, edit-good}
 use Rattle.tree.proofs.Paths.{Ordered, ordered-next, gather-at}

@@ -13,12 +13,13 @@ use Rattle.list.specs.Bytes.{putAt}
 use Rattle.list.proofs.Places.{split}
 use Rattle.inherit.specs.Asked.{MaybeList}
 use Rattle.inherit.specs.Compute.{ordinary}
+use Rattle.tree.specs.General.{tab}
 use Rattle.tree.specs.Held.{New, blockFor}
 use Rattle.tree.specs.Room.{tagOf, numberOf, savedIn}
 use Rattle.tree.specs.Formed.{placed}
-use Rattle.tree.specs.Calls.{Edit, editAt, editBytes, short, nobody}
-use Rattle.tree.specs.History.{edit, undo, settled, edited, undone, after}
-use Rattle.tree.specs.Replay.{add, alter, Undo, off, again, Blocks, reads, fine, change, keep, back, work, rules, tab, undoIn}
+use Rattle.tree.specs.Calls.{Edit, editAt, editBytes, short, nobody, add, alter}
+use Rattle.tree.proofs.History.{edit, undo, settled, edited, undone, after}
+use Rattle.tree.proofs.Replay.{Undo, off, again, Blocks, reads, fine, change, keep, back, work, rules, undoIn}
 use Rattle.tree.proofs.Tab.{length-tab, getD-tab, tab-set, tab-ext, tab-last, tab-take}
 use Rattle.tree.proofs.Applied.{upd, upd-same, upd-other}
 

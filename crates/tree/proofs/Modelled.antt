@@ -21,14 +21,14 @@ use Rattle.inherit.specs.Asked.{MaybeList}
 use Rattle.inherit.specs.Compute.{ordinary, ruleOk, onReading as Values·onReading, readable as Values·readable}
 use Rattle.tree.specs.declared.Answer.{Answer}
 use Rattle.tree.specs.declared.Answer.the-variants.{Done, Refused}
-use Rattle.tree.specs.General.{isSome, rest, bind}
+use Rattle.tree.specs.General.{isSome, rest, bind, tab}
 use Rattle.tree.specs.Held.{New, held, isDone, slotOk, blockFor, kindOf}
 use Rattle.tree.specs.Room.{limit, depth, objects, kept, roomFor, settings, ruleOf, defaultOf, defaultSlot, ownAt, own, slot, area}
 use Rattle.tree.specs.Formed.{Head, settingsOk, placed, formed}
-use Rattle.tree.specs.Calls.{Outcome, refuse, Edit, list, mark, owners, onReading, readable, short, told, onObject, editAt, editBytes, tested, changed, finish, nobody, addTo, alterTo, undoTo, startOk, startTo, answerValues, bytesIf, copied, dataOf, listTo, ownTo, dataTo, countsTo}
-use Rattle.tree.specs.History.{Call, edit, undo, Past, settled, edited, after, remains, next, noted, unnoted, accepts, afresh}
-use Rattle.tree.specs.Replay.{Change, add, alter, Blocks, Undo, reads, fine, when, change, keep, work, rules, tab, shown, Tree}
-use Rattle.tree.specs.Played.{callTo, accepted, played}
+use Rattle.tree.specs.Calls.{Outcome, refuse, Edit, list, mark, owners, onReading, readable, short, told, onObject, editAt, editBytes, tested, changed, finish, nobody, addTo, alterTo, undoTo, startOk, startTo, answerValues, bytesIf, copied, dataOf, listTo, ownTo, dataTo, countsTo, Change, add, alter}
+use Rattle.tree.proofs.History.{Call, edit, undo, Past, settled, edited, after, remains, next, noted, unnoted, accepts, afresh}
+use Rattle.tree.proofs.Replay.{Blocks, Undo, reads, fine, when, change, keep, work, rules, shown, Tree}
+use Rattle.tree.proofs.Played.{callTo, accepted, played}
 use Rattle.tree.proofs.Tab.{length-tab, getD-tab}
 use Rattle.tree.proofs.Areas.{area-byte, area-length, area-ready}
 use Rattle.tree.proofs.Became.{change-became}

@@ -23,7 +23,7 @@ use Rattle.inherit.specs.Compute.{ordinary, bytesFor, onReading, readable}
 use Rattle.list.specs.Order.{need}
 use Rattle.list.specs.Answer.{Values, done, refused}
 use Rattle.tree.specs.Held.{isDone}
-use Rattle.tree.specs.Replay.{reads}
+use Rattle.tree.proofs.Replay.{reads}
 use Rattle.tree.specs.General.{bind, isSome, every}
 use Rattle.tree.specs.Model.{Settings, Object, no-object, object, asked, short, fitting, listBelow, above, listFrom, listOf, listed, Change, add, setList, setMark, setOwners, withList, withMark, withOwners, apply, shortIf, told, outcome, placed, changeAnswer}
 

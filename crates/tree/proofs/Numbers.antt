@@ -16,9 +16,8 @@ use Rattle.list.proofs.Answers.{ListNumber, list-number}
 use Rattle.inherit.specs.Asked.{MaybeList}
 use Rattle.tree.specs.declared.Answer.{Answer}
 use Rattle.tree.specs.declared.Answer.the-variants.{Done, Refused}
-use Rattle.tree.specs.Calls.{Outcome, refuse, Edit, list, mark, owners, onReading, readable, told, onObject, tested, finish, finishUndo, addTo, alterTo, undoTo, startTo, answerValues}
-use Rattle.tree.specs.Replay.{Change, add, alter}
-use Rattle.tree.specs.Played.{accepted}
+use Rattle.tree.specs.Calls.{Outcome, refuse, Edit, list, mark, owners, onReading, readable, told, onObject, tested, finish, finishUndo, addTo, alterTo, undoTo, startTo, answerValues, Change, add, alter}
+use Rattle.tree.proofs.Played.{accepted}
 use Rattle.tree.specs.Shown.{Begin, startWith, changeWith}
 
 abbrev pub Numbered : Answer → Type 0

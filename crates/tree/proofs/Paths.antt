@@ -15,7 +15,7 @@ use Rattle.inherit.specs.Asked.{MaybeList}
 use Rattle.tree.specs.General.{bind}
 use Rattle.tree.specs.Held.{parentOf}
 use Rattle.tree.specs.Work.{computed}
-use Rattle.tree.specs.Replay.{Blocks, fromRoot, gather, work}
+use Rattle.tree.proofs.Replay.{Blocks, fromRoot, gather, work}
 
 -- the list of the parent that b names, among the lists so far; absent where it names none of them
 unfoldable pub parentList : List MaybeList → List ℕ → MaybeList

@@ -20,15 +20,16 @@ use Rattle.list.proofs.Places.{split, length-part, put-whole}
 use Rattle.list.proofs.Tests.{both-true}
 use Rattle.inherit.specs.Asked.{MaybeList}
 use Rattle.inherit.specs.Compute.{ordinary}
+use Rattle.tree.specs.General.{tab}
 use Rattle.tree.specs.Held.{New, held, isDone, blockFor}
 use Rattle.tree.specs.Room.{limit, depth, objects, kept, settings, own, slot, step, tagOf, numberOf, savedIn, area}
 use Rattle.tree.specs.Formed.{Head, placed, stepsOk, formed}
 use Rattle.list.specs.Order.{need}
-use Rattle.tree.specs.Calls.{Edit, list, mark, owners, Outcome, refuse, onReading, readable, short, onObject, tested, told as told-in}
+use Rattle.tree.specs.Calls.{Edit, list, mark, owners, Outcome, refuse, onReading, readable, short, onObject, tested, told as told-in, Change, add, alter}
 use Rattle.tree.specs.Calls.{editAt, editBytes, changed, latest, left, undone, finish, finishUndo, nobody, addTo, alterTo, undoTo}
-use Rattle.tree.specs.History.{Call, edit, undo, settled, after}
-use Rattle.tree.specs.Replay.{Change, add, alter, Undo, off, again, Tree, reads, fine, when, work, rules, tab, undoIn, shown}
-use Rattle.tree.specs.Played.{callTo, accepted}
+use Rattle.tree.proofs.History.{Call, edit, undo, settled, after}
+use Rattle.tree.proofs.Replay.{Undo, off, again, Tree, reads, fine, when, work, rules, undoIn, shown}
+use Rattle.tree.proofs.Played.{callTo, accepted}
 use Rattle.tree.proofs.Applied.{upd, upd-other, ahead, Adds, Again}
 use Rattle.tree.proofs.Turns.{Owned, owned-off, owned-put, owned-add, put-steps, add-steps, latest as latest-of, back-steps, off-steps}
 use Rattle.tree.proofs.Tab.{tab-push, tab-first}

@@ -18,18 +18,18 @@ use Rattle.list.proofs.Tests.{both-true, off}
 use Rattle.inherit.specs.declared.Mapping.{Mapping}
 use Rattle.inherit.specs.Asked.{MaybeList}
 use Rattle.inherit.specs.Compute.{ruleOk}
-use Rattle.tree.specs.General.{isSome, orElse}
+use Rattle.tree.specs.General.{isSome, orElse, tab}
 use Rattle.tree.specs.declared.Answer.the-variants.{Done, Refused}
 use Rattle.tree.specs.Held.{held, ownList}
 use Rattle.tree.specs.Room.{limit, depth, objects, kept, roomFor, limitsOk, settings, settingsFor, own, slot, area, emptyRoom}
 use Rattle.tree.specs.Formed.{stepsOk, formed}
 use Rattle.list.specs.Order.{need}
-use Rattle.tree.specs.Calls.{Outcome, short, onObject, told, bytesIf, dataOf, copied, startOk, finishUndo, undone, startTo, undoTo, listTo}
+use Rattle.tree.specs.Calls.{Outcome, short, onObject, told, bytesIf, dataOf, copied, startOk, finishUndo, undone, startTo, undoTo, listTo, Change}
 use Rattle.tree.specs.Calls.{ownTo, dataTo}
-use Rattle.tree.specs.History.{State, Call, edit, undo, Rules, settled, edited, undone as machine-undone, after, start, run, replay, afresh}
-use Rattle.tree.specs.History.{remains, accepts, positive}
-use Rattle.tree.specs.Replay.{Change, Tree, reads, when, work, rules, tab, shown}
-use Rattle.tree.specs.Played.{callTo, accepted, played}
+use Rattle.tree.proofs.History.{State, Call, edit, undo, Rules, settled, edited, undone as machine-undone, after, start, run, replay, afresh}
+use Rattle.tree.proofs.History.{remains, accepts, positive}
+use Rattle.tree.proofs.Replay.{Tree, reads, when, work, rules, shown}
+use Rattle.tree.proofs.Played.{callTo, accepted, played}
 use Rattle.tree.proofs.Tab.{length-tab, getD-tab}
 use Rattle.tree.proofs.Lays.{length-settings}
 use Rattle.tree.proofs.Settings.{settings-good}

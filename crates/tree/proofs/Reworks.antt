@@ -11,11 +11,10 @@ use borrow.Author.Tests.{lt-ltb, le-ltb}
 use Rattle.list.specs.Bytes.{part, putAt}
 use Rattle.list.proofs.Places.{split, length-put, part-put-same, part-put-before, part-put-after}
 use Rattle.inherit.specs.Asked.{MaybeList}
-use Rattle.tree.specs.General.{bind}
+use Rattle.tree.specs.General.{bind, tab}
 use Rattle.tree.specs.Held.{held, slotFor, slotOk, parentOf}
 use Rattle.tree.specs.Room.{ownAt, slotAt, settings, own, slot}
 use Rattle.tree.specs.Work.{computed, above, laid, rework, reworked}
-use Rattle.tree.specs.Replay.{tab}
 use Rattle.tree.proofs.Computed.{computed-length, computed-held, computed-slot}
 use Rattle.tree.proofs.Tab.{length-tab, getD-tab, tab-ext}
 use Rattle.tree.proofs.Paths.{parentList, nextList, inOrder, in-order-same}

@@ -17,7 +17,7 @@ use Rattle.tree.specs.Room.{ruleOf, mappingOf, defaultSlot, defaultOf, s
 use Rattle.tree.specs.Formed.{settingsOk}
 use Rattle.tree.specs.Calls.{short}
 use Rattle.tree.specs.Shown.{word}
-use Rattle.tree.specs.Replay.{reads}
+use Rattle.tree.proofs.Replay.{reads}
 use Rattle.tree.proofs.Lays.{length-slot}
 use Rattle.tree.proofs.Slots.{held-slot, slot-good}
 use Rattle.tree.proofs.Blocks.{part-all, part-past}

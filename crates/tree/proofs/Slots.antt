@@ -20,7 +20,7 @@ use Rattle.inherit.specs.Asked.{MaybeList, lent}
 use Rattle.inherit.specs.Compute.{ordinary}
 use Rattle.tree.specs.Held.{hasList, bytesIn, held, slotFor, isDone, slotOk, idIn, idFor, idOk}
 use Rattle.tree.specs.Calls.{short}
-use Rattle.tree.specs.Replay.{reads}
+use Rattle.tree.proofs.Replay.{reads}
 use Rattle.tree.proofs.Lays.{length-padded, length-id}
 
 -- bytes with zeros behind them

@@ -15,9 +15,8 @@ use Rattle.inherit.proofs.Worked.{mapping, system, parentWith, inherited, liste
 use Rattle.tree.specs.General.{bind, isSome, every, rest}
 use Rattle.tree.specs.Held.{New}
 use Rattle.tree.specs.Room.{roomFor}
-use Rattle.tree.specs.Calls.{list as Edit·list, mark as Edit·mark}
-use Rattle.tree.specs.Replay.{add as Change·add, alter}
-use Rattle.tree.specs.Played.{accepted}
+use Rattle.tree.specs.Calls.{list as Edit·list, mark as Edit·mark, add as Change·add, alter}
+use Rattle.tree.proofs.Played.{accepted}
 use Rattle.tree.specs.Model.{Settings, Object, object, fitting, listFrom, listOf, listed, Change, add, setList, setMark, setOwners, apply, objectsAfter, placed, shortIf, told, outcome, changeAnswer, limitsOk, startAnswer, Part, computed-list, own-list, other-data, bytesIf, parentByte, dataBytes, partBytes, partTold, readAnswer, readInto, Call, start, change, undo, read, counts, Tree, begun, objectsOf, undoAnswer, answer, takenOff, next, after}
 use Rattle.tree.specs.Shown as Shown
 use Rattle.tree.specs.Shown.{Begin, settingsFrom, startWith, meant, alteration, changeMeant, answerTo, playedOn}
@@ -57,7 +56,7 @@ answers s (q ∷ qs) = answer (after s qs) q ∷ answers s qs
 abbrev listAfter : Tree → List Call → ℕ → Option MaybeList
 listAfter s qs i = let x = after s qs in listOf (x .settings) (objectsOf x) i
 
-unfoldable model-open : Unit {0}
+unfoldable pub model-open : Unit {0}
 unfolding fitting listFrom listed apply objectsAfter placed shortIf told outcome changeAnswer limitsOk startAnswer bytesIf parentByte dataBytes partBytes partTold readAnswer readInto undoAnswer answer takenOff next after bind isSome every rest answers
 model-open = tt
 
@@ -174,7 +173,7 @@ abbrev made : ℕ → Bool → MaybeList → Shown.Call
 made parent mark list =
     Shown.change (Change·add (record { parent = parent; container = true; mark = mark; type = replicate 16 0; owner = system; group = system; list = list }))
 
-unfoldable calls-open : Unit {0}
+unfoldable pub calls-open : Unit {0}
 unfolding meant changeMeant alteration
 calls-open = tt
 

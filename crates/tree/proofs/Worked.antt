@@ -23,7 +23,7 @@ use Rattle.tree.specs.Held.{New, bytesIn, idIn, idFor, slotFor, blockFor
 use Rattle.tree.specs.Room.{limitsOk, roomFor, roomOf, settingsFor}
 use Rattle.tree.specs.Formed.{formed, headOk}
 use Rattle.tree.specs.Work.{computed}
-use Rattle.tree.specs.Replay.{fromRoot, gather, work}
+use Rattle.tree.proofs.Replay.{fromRoot, gather, work}
 
 -- ---- what a computation of a tree opens, layer by layer: to unfold a name here is to unfold what its line names
 

@@ -145,6 +145,11 @@ pub data Edit : Type 0 where
   mark : Bool → Edit
   owners : List ℕ → List ℕ → Edit
 
+-- the changes, as they are asked for: add, and whatever alters object i
+pub data Change : Type 0 where
+  add : New → Change
+  alter : ℕ → Edit → Change
+
 -- where the altered bytes lie in own data, and what they are
 unfoldable pub editAt : Edit → ℕ
 editAt (list o) = 157

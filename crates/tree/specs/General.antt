@@ -1,7 +1,7 @@
 -- What several files use: values that may not be there, tests of numbers, lists.
 use Prim.Native.Nat.{ℕ, zero, suc}
 use mathlib.Core.Bool.{Bool, true, false, _&&_}
-use mathlib.Core.List.{List, [], _∷_}
+use mathlib.Core.List.{List, [], _∷_, _++_}
 use mathlib.Core.Option.{Option, none, some}
 
 -- go on with what is there
@@ -27,3 +27,8 @@ every t (suc n) = every t n && t n
 unfoldable pub rest : {A : Type 0} → List A → List A
 rest [] = []
 rest (x ∷ xs) = xs
+
+-- f 0, f 1 and so on below n
+unfoldable pub tab : {A : Type 0} → ℕ → (ℕ → A) → List A
+tab zero f = []
+tab (suc n) f = tab n f ++ (f n ∷ [])

@@ -6,7 +6,4 @@ pub mod Formed
 pub mod Work
 pub mod Calls
 pub mod Faults
-pub mod History
-pub mod Replay
-pub mod Played
 pub mod Shown

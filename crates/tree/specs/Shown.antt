@@ -9,10 +9,10 @@ use Rattle.list.specs.Bytes.{guidAt}
 use Rattle.list.specs.Answer.{Values}
 use Rattle.inherit.specs.declared.Mapping.{Mapping}
 use Rattle.inherit.specs.Asked.{MaybeList}
-use Rattle.tree.specs.Held.{New, parentOf, kindOf, markOf, typeOf, ownerOf, groupOf, ownList}
-use Rattle.tree.specs.Room.{limit, depth, objects, settings, ruleOf, mappingOf, defaultOf, own, step, tagOf, numberOf, savedIn, roomFor}
-use Rattle.tree.specs.Calls.{Edit, list, mark, owners, nobody, Outcome, answerValues, startTo, addTo, alterTo, undoTo, listTo, ownTo, dataTo, countsTo}
-use Rattle.tree.specs.Replay.{Change, add, alter, tab}
+use Rattle.tree.specs.General.{tab}
+use Rattle.tree.specs.Held.{New, held, parentOf, kindOf, markOf, typeOf, ownerOf, groupOf, ownList}
+use Rattle.tree.specs.Room.{limit, depth, objects, settings, ruleOf, mappingOf, defaultOf, own, slot, step, tagOf, numberOf, savedIn, roomFor}
+use Rattle.tree.specs.Calls.{Edit, list, mark, owners, nobody, Outcome, answerValues, startTo, addTo, alterTo, undoTo, listTo, ownTo, dataTo, countsTo, Change, add, alter}
 use Rattle.tree.specs.Model as Model
 use Rattle.tree.specs.Model.{Settings, Object, Part, computed-list, own-list, other-data}
 
@@ -38,6 +38,10 @@ objectIn b =
 -- the objects of a room
 unfoldable pub objectsIn : List ℕ → List Object
 objectsIn r = tab (objects r) (λ i. objectIn (own i r))
+
+-- their computed lists, as they lie in the room
+unfoldable pub listsIn : List ℕ → List MaybeList
+listsIn r = tab (objects r) (λ i. held (slot i r))
 
 -- the objects that stand once the latest kept step is taken back: that of an add is gone, any other has its own data as it was before
 unfoldable pub objectsBack : List ℕ → List Object
@@ -127,22 +131,18 @@ readWith computed-list i r out = listTo i r out
 readWith own-list i r out = ownTo i r out
 readWith other-data i r out = dataTo i r out
 
--- the values of its answer, what it leaves of the room, and of the bytes lent for reading back
-unfoldable pub answerTo : Call → List ℕ → Values
-answerTo (start b) r = answerValues (startWith b r .answer)
-answerTo (change c) r = answerValues (changeWith c r .answer)
-answerTo undo r = answerValues (undoTo r .answer)
-answerTo (read x i out) r = answerValues (readWith x i r out .answer)
-answerTo counts r = answerValues (countsTo r)
+-- what each answers, and what it leaves of the room: a call that only reads leaves it as it was
+unfoldable pub callOn : Call → List ℕ → Outcome
+callOn (start b) r = startWith b r
+callOn (change c) r = changeWith c r
+callOn undo r = undoTo r
+callOn (read x i out) r = record { answer = readWith x i r out .answer; bytes = r }
+callOn counts r = record { answer = countsTo r; bytes = r }
 
-unfoldable pub roomAfter : Call → List ℕ → List ℕ
-roomAfter (start b) r = startWith b r .bytes
-roomAfter (change c) r = changeWith c r .bytes
-roomAfter undo r = undoTo r .bytes
-roomAfter (read x i out) r = r
-roomAfter counts r = r
+abbrev pub answerTo : Call → List ℕ → Values
+answerTo q r = answerValues (callOn q r .answer)
 
 -- the room after calls, the latest first
 unfoldable pub playedOn : List Call → List ℕ → List ℕ
 playedOn [] r = r
-playedOn (q ∷ qs) r = roomAfter q (playedOn qs r)
+playedOn (q ∷ qs) r = callOn q (playedOn qs r) .bytes

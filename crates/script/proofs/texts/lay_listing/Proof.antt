@@ -4,14 +4,14 @@ use native.Mathlib.Omega.{arith}
 use mathlib.Core.Path.{sym, _∙_}
 use Prim.Native.Nat.{_≤_, _-_}
 use denote.Ref.{now}
-use Rattle.tree.specs.Replay.{shown}
 use Rattle.script.proofs.Laid.{lays, lays-then, lays-length}
 use Rattle.script.proofs.Listings.{Lined, lists-length, lists-at, objects-most, lined-none, lined-more, lined-all}
 use Rattle.script.proofs.texts.lay_listing.Statement.{statement}
+use Rattle.tree.specs.Shown.{listsIn}
 use Rattle.script.proofs.texts.lay_listing.Tie as tie
 
 abbrev Inv-loop : tie.InvT-loop
-Inv-loop room n out₀ a b at₀ i₀ out at i = (i ≤ n) × Lined (shown room .lists) at₀ out₀ i at out
+Inv-loop room n out₀ a b at₀ i₀ out at i = (i ≤ n) × Lined (listsIn room) at₀ out₀ i at out
 
 abbrev μ-loop : tie.MeasureT-loop
 μ-loop room n out₀ a b at₀ i₀ out at i = n - i

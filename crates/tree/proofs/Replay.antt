@@ -10,23 +10,18 @@ use Rattle.list.specs.Entry.{access}
 use Rattle.list.specs.List.{checkOf}
 use Rattle.inherit.specs.Asked.{MaybeList}
 use Rattle.inherit.specs.Compute.{ordinary}
-use Rattle.tree.specs.General.{bind}
+use Rattle.tree.specs.General.{bind, tab}
 use Rattle.tree.specs.Held.{New, isDone, blockFor, parentOf}
 use Rattle.tree.specs.Room.{objects, kept, limit, own, slot, step, tagOf, numberOf, savedIn}
 use Rattle.tree.specs.Formed.{placed}
 use Rattle.tree.specs.Work.{computed}
-use Rattle.tree.specs.Calls.{Edit, list, mark, owners, short, editAt, editBytes, nobody}
+use Rattle.tree.specs.Calls.{Edit, list, mark, owners, short, editAt, editBytes, nobody, Change, add, alter}
 use Rattle.tree.specs.Held.{held}
-use Rattle.tree.specs.History.{Rules, State}
+use Rattle.tree.proofs.History.{Rules, State}
 
 -- own data of all objects, by number
 abbrev pub Blocks : Type 0
 Blocks = List (List ℕ)
-
--- the changes: add, and whatever alters an object's own data
-pub data Change : Type 0 where
-  add : New → Change
-  alter : ℕ → Edit → Change
 
 -- a list that is given, possibly absent, reads as done
 unfoldable pub reads : MaybeList → Bool
@@ -90,11 +85,6 @@ unfoldable pub rules : ℕ → List ℕ → Rules Change Blocks (List MaybeList)
 rules n e = record { empty = []; bare = []; change = change n; work = work e; keep = keep; back = back }
 
 -- ---- the tree that a room shows
-
--- f 0, f 1 and so on below n
-unfoldable pub tab : {A : Type 0} → ℕ → (ℕ → A) → List A
-tab zero f = []
-tab (suc n) f = tab n f ++ (f n ∷ [])
 
 -- what a step in the room puts back
 unfoldable pub undoIn : List ℕ → Undo

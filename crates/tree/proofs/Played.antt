@@ -4,9 +4,8 @@ use mathlib.Core.List.{List, [], _∷_}
 use Prim.Native.Nat.{ℕ}
 use Rattle.tree.specs.declared.Answer.{Answer}
 use Rattle.tree.specs.declared.Answer.the-variants.{Done, Refused}
-use Rattle.tree.specs.Calls.{Outcome, addTo, alterTo, undoTo}
-use Rattle.tree.specs.History.{Call, edit, undo}
-use Rattle.tree.specs.Replay.{Change, add, alter}
+use Rattle.tree.specs.Calls.{Outcome, addTo, alterTo, undoTo, Change, add, alter}
+use Rattle.tree.proofs.History.{Call, edit, undo}
 
 -- one call
 unfoldable pub callTo : Call Change → List ℕ → Outcome
