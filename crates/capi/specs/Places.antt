@@ -30,8 +30,8 @@ settingsOf bits =
     }
 
 -- a mapping's four masks: read, write, execute, all
-abbrev pub mappingOf : List ℕ → Mapping
-mappingOf m = record { read = getD m 0 0; write = getD m 1 0; execute = getD m 2 0; all = getD m 3 0 }
+abbrev pub mappingFrom : List ℕ → Mapping
+mappingFrom m = record { read = getD m 0 0; write = getD m 1 0; execute = getD m 2 0; all = getD m 3 0 }
 
 -- the promise of a computation: the answer of what is asked in its places, and what the buffer holds afterwards
 pub record Computes (a : Asked) (out places after : List ℕ) : Type 0 where

@@ -12,7 +12,7 @@ ghost use Rattle.tree.specs.Held.{yes};
 ghost use Rattle.tree.specs.Room.{roomOf};
 ghost use Rattle.tree.specs.Calls.{list as Edit·list, mark as Edit·mark, owners as Edit·owners, answerValues as Calls·valuesOf, startTo, addTo, alterTo, undoTo, listTo, ownTo, dataTo, countsTo};
 ghost use Rattle.script.specs.Play.{playTo};
-ghost use Rattle.capi.specs.Places.{placesOf, settingsOf, mappingOf, yesOf, newOf, Computes};
+ghost use Rattle.capi.specs.Places.{placesOf, settingsOf, mappingFrom, yesOf, newOf, Computes};
 use inherit::Computed;
 use inherit::Mapping;
 use inherit::Settings;
@@ -57,7 +57,7 @@ fn settings_of(bits: u32) -> Settings
 }
 
 fn mapping_of(m: &[u32; 4]) -> Mapping
-    ensures { λ r. ⌜ r ≡ mappingOf (now (m .entry)) ⌝ }
+    ensures { λ r. ⌜ r ≡ mappingFrom (now (m .entry)) ⌝ }
 {
     Mapping {
         read: m[0],
@@ -115,7 +115,7 @@ pub extern "C" fn pt_compute<'a>(
     out: &mut [u8],
     answer: &mut [u32; 8],
 )
-    ensures { λ _. ⌜ Computes (askedBy rule (settingsOf settings) (mappingOf (now (mapping .entry))) (now (parent .entry)) (now (creator .entry)) (now (default .entry)) (now (types .entry)) (now (owner .entry)) (now (group .entry))) (now (out .entry)) (now (answer .exit)) (now (out .exit)) ⌝ }
+    ensures { λ _. ⌜ Computes (askedBy rule (settingsOf settings) (mappingFrom (now (mapping .entry))) (now (parent .entry)) (now (creator .entry)) (now (default .entry)) (now (types .entry)) (now (owner .entry)) (now (group .entry))) (now (out .entry)) (now (answer .exit)) (now (out .exit)) ⌝ }
 {
     let m = mapping_of(mapping);
     match inherit::compute(
@@ -207,8 +207,8 @@ pub extern "C" fn pt_start(
     default: &[u8],
     answer: &mut [u32; 8],
 )
-    ensures answer { λ _. ⌜ now (answer .exit) ≡ placesOf (Calls·valuesOf (startTo objects steps rule (mappingOf (now (mapping .entry))) (lent (yesOf given) (now (default .entry))) (now (room .entry)) .answer)) ⌝ }
-    ensures room { λ _. ⌜ now (room .exit) ≡ startTo objects steps rule (mappingOf (now (mapping .entry))) (lent (yesOf given) (now (default .entry))) (now (room .entry)) .bytes ⌝ }
+    ensures answer { λ _. ⌜ now (answer .exit) ≡ placesOf (Calls·valuesOf (startTo objects steps rule (mappingFrom (now (mapping .entry))) (lent (yesOf given) (now (default .entry))) (now (room .entry)) .answer)) ⌝ }
+    ensures room { λ _. ⌜ now (room .exit) ≡ startTo objects steps rule (mappingFrom (now (mapping .entry))) (lent (yesOf given) (now (default .entry))) (now (room .entry)) .bytes ⌝ }
 {
     let m = mapping_of(mapping);
     put_answer(

@@ -8,13 +8,13 @@ use native.Mathlib.Omega.{arith}
 use lib.ListN.{length, take, drop, length-drop, drop-of-length-le}
 use lib.Seq.{drop-drop, take-all}
 use Rattle.list.specs.Bytes.{part}
-use Rattle.script.specs.Record.{numberOf, asked, sizeOf, stepOf}
+use Rattle.script.specs.Record.{recordNumber, recordAsks, recordSize, stepOf}
 use Rattle.script.specs.Fold.{Run, past, carried, lengthIf, roomIf, isBad, runOf}
 use Rattle.script.proofs.Steps.{size-some, by-step}
 use Rattle.tree.specs.Shown.{callOn}
 use Rattle.script.proofs.Folds.{past-none, past-past, run-none, run-stops, run-bad, run-record}
 
-pub carried-part : (n : ℕ) (t r p : List ℕ) → p ≡ part 0 n t → callOn (asked p) r .bytes ≡ carried n t r
+pub carried-part : (n : ℕ) (t r p : List ℕ) → p ≡ part 0 n t → callOn (recordAsks p) r .bytes ≡ carried n t r
 unfolding carried part
 carried-part n t r p e = rw e
 
@@ -32,7 +32,7 @@ run-next t r =
     by-step t
     (λ e l. rw e (sym (past-none (runOf t r))))
     (λ e l. rw e (sym (past-none (runOf t r))))
-    (λ e l. rw e (run-record t r (sizeOf t) (numberOf t) e))
+    (λ e l. rw e (run-record t r (recordSize t) (recordNumber t) e))
 
 no-next : (t r : List ℕ) → lengthIf (stepOf t) ≡ 0 → runOf t r ≡ record { used = 0; bad = isBad (stepOf t); room = roomIf (stepOf t) t r }
 unfolding lengthIf roomIf isBad

@@ -10,8 +10,8 @@ use lib.Seq.{drop-drop, drop-append-le, take-append-le}
 use Rattle.list.specs.Bytes.{Bytes}
 use Rattle.list.proofs.Little.{bytes-drop}
 use Rattle.list.proofs.Tests.{off}
-use Rattle.script.specs.Record.{numberOf, asked, sizeOf, stepOf}
-use Rattle.script.specs.Fold.{Run, past, carried, onStep, runBy, runOf, Stage, ahead, onPiece, inPieces, joined}
+use Rattle.script.specs.Record.{recordNumber, recordAsks, recordSize, stepOf}
+use Rattle.script.specs.Fold.{Run, past, carried, onStep, runBy, runOf, Stage, ahead, onPiece, inPieces, allPieces}
 use Rattle.script.specs.declared.records.Found.{Found}
 use Rattle.script.specs.declared.records.Found.the-variants.{Cut, Bad, Record}
 use Rattle.tree.specs.Shown.{callOn}
@@ -78,8 +78,8 @@ by-records P cut bad whole t r = within (suc (length t)) t r (omega arith)
     within zero t r h = absurd (omega arith)
     within (suc k) t r h =
         by-step t (λ e l. cut t r e) (λ e l. bad t r e)
-        (λ e l. let s = shorter t (sizeOf t) (numberOf t) e in
-        whole t r (sizeOf t) (numberOf t) e (within k (drop (sizeOf t) t) (carried (sizeOf t) t r) (omega arith)))
+        (λ e l. let s = shorter t (recordSize t) (recordNumber t) e in
+        whole t r (recordSize t) (recordNumber t) e (within k (drop (recordSize t) t) (carried (recordSize t) t r) (omega arith)))
 
 pub run-used : (t r : List ℕ) → runOf t r .used ≤ length t
 unfolding past
@@ -115,7 +115,7 @@ bad-short =
 
 carried-append : (n : ℕ) (t u r : List ℕ) → n ≤ length t → carried n (t ++ u) r ≡ carried n t r
 unfolding carried
-carried-append n t u r h = ap (λ (a : List ℕ). callOn (asked a) r .bytes) (take-append-le n t u h)
+carried-append n t u r h = ap (λ (a : List ℕ). callOn (recordAsks a) r .bytes) (take-append-le n t u h)
 
 -- a run with bytes behind: it stays where it met a bad record, and else goes on with what was left and those bytes
 goes-on : List ℕ → List ℕ → Run → Run
@@ -168,15 +168,15 @@ piece-same t p r =
     let f = runOf t r in
     piece-on (f .used) (f .bad) t p (f .room) (run-used t r) ∙ ap (ahead 0 (t ++ p)) (sym (run-append t p r))
 
-pieces-from : (t : List ℕ) (ps : List (List ℕ)) (r : List ℕ) → inPieces (ahead 0 t (runOf t r)) ps ≡ ahead 0 (t ++ joined ps) (runOf (t ++ joined ps) r)
-unfolding inPieces joined
+pieces-from : (t : List ℕ) (ps : List (List ℕ)) (r : List ℕ) → inPieces (ahead 0 t (runOf t r)) ps ≡ ahead 0 (t ++ allPieces ps) (runOf (t ++ allPieces ps) r)
+unfolding inPieces allPieces
 pieces-from t [] r = rw append-nil
 pieces-from t (p ∷ ps) r =
     ap (λ (g : Stage). inPieces g ps) (piece-same t p r)
     ∙ pieces-from (t ++ p) ps r
-    ∙ ap (λ (a : List ℕ). ahead 0 a (runOf a r)) (append-assoc t p (joined ps))
+    ∙ ap (λ (a : List ℕ). ahead 0 a (runOf a r)) (append-assoc t p (allPieces ps))
 
 pub pieces-same : (ps : List (List ℕ)) (r : List ℕ)
-    → inPieces (record { at = 0; left = []; bad = false; room = r }) ps ≡ ahead 0 (joined ps) (runOf (joined ps) r)
+    → inPieces (record { at = 0; left = []; bad = false; room = r }) ps ≡ ahead 0 (allPieces ps) (runOf (allPieces ps) r)
 unfolding ahead
 pieces-same ps r = rw (run-none r) at (pieces-from [] ps r)

@@ -17,11 +17,11 @@ use Rattle.tree.specs.Held.{hasList, bytesIn, held}
 use Rattle.tree.specs.Room.{objects, slot}
 use Rattle.tree.specs.Formed.{formed}
 use Rattle.list.specs.Order.{need}
-use Rattle.tree.specs.Calls.{told, onObject, bytesIf, copied, listTo, countsTo}
+use Rattle.tree.specs.Calls.{toldAs, onObject, listBytes, copied, listTo, countsTo}
 use Rattle.tree.proofs.Tested.{head-says, formed-parts, bytes-most}
 use Rattle.tree.proofs.Tab.{length-tab, getD-tab}
 use Rattle.script.specs.Text.{decimal, objects-text, none-text, space, newline, columnsBy, columns, line, lines, heading, listing, badLine, laidAt}
-use Rattle.script.specs.Play.{Ending, Listed, BadAt, textOf, answerFor, written, listingTo}
+use Rattle.script.specs.Play.{Ending, Listed, BadAt, textOf, endingAnswer, textTo, listingTo}
 use Rattle.script.proofs.Laid.{laid-nothing, laid-all, Lays, lays, lays-then}
 
 -- ---- the columns
@@ -35,19 +35,19 @@ unfolding columnsBy
 columns-some n k e = rw e
 
 -- from the tree's answer
-pub columns-told : (o : MaybeList) {n k : ℕ} {is : Bool} → told o ≡ Done n is k → columnsBy n is k ≡ columns o
-unfolding told columns
+pub columns-told : (o : MaybeList) {n k : ℕ} {is : Bool} → toldAs o ≡ Done n is k → columnsBy n is k ≡ columns o
+unfolding toldAs columns
 columns-told none e = cc
 columns-told (some s) e = cc
 
 -- a list's answer is no refusal
-pub told-done : (o : MaybeList) {k w at : ℕ} → told o ≡ Refused k w at → ⊥
-unfolding told
+pub told-done : (o : MaybeList) {k w at : ℕ} → toldAs o ≡ Refused k w at → ⊥
+unfolding toldAs
 told-done none e = let z : _≡_ {A = ℕ} 0 1 = cc in omega arith
 told-done (some s) e = let z : _≡_ {A = ℕ} 0 1 = cc in omega arith
 
 -- a line by the tree's answer
-pub line-told : (i : ℕ) (o : MaybeList) {n k at r : ℕ} {is : Bool} {d out : List ℕ} → told o ≡ Done n is k
+pub line-told : (i : ℕ) (o : MaybeList) {n k at r : ℕ} {is : Bool} {d out : List ℕ} → toldAs o ≡ Done n is k
     → Lays at (decimal i ++ (space ++ (columnsBy n is k ++ newline))) d r out → Lays at (line i o) d r out
 unfolding line
 line-told i o e l = rw (← columns-told o e) l
@@ -65,19 +65,19 @@ lists-at r i h = getD-tab (objects r) (λ j. held (slot j r)) i none h
 pub objects-most : (r : List ℕ) → formed r ≡ true → objects r ≤ 64
 objects-most r h = let f = head-says r (formed-parts r h .head-ok) in omega arith
 
-held-most : (s : List ℕ) → length (bytesIf (held s)) ≤ 1024
-unfolding bytesIf
+held-most : (s : List ℕ) → length (listBytes (held s)) ≤ 1024
+unfolding listBytes
 held-most s = by (hasList s)
   where
-    by : (b : Bool) → length (bytesIf (cond b (some (bytesIn s)) none)) ≤ 1024
+    by : (b : Bool) → length (listBytes (cond b (some (bytesIn s)) none)) ≤ 1024
     by true = bytes-most s
     by false = omega arith
 
 -- 1,024 bytes are room enough for a list
-pub list-told : (i : ℕ) (r out : List ℕ) → formed r ≡ true → i < objects r → length out ≡ 1024 → listTo i r out .answer ≡ told (held (slot i r))
+pub list-told : (i : ℕ) (r out : List ℕ) → formed r ≡ true → i < objects r → length out ≡ 1024 → listTo i r out .answer ≡ toldAs (held (slot i r))
 unfolding listTo onObject copied need
 list-told i r out f h e =
-    let m : length (bytesIf (held (slot i r))) ≤ length out = rw e (held-most (slot i r)) in
+    let m : length (listBytes (held (slot i r))) ≤ length out = rw e (held-most (slot i r)) in
     simp (tests, f)
 
 -- ---- the lines one after another
@@ -108,32 +108,32 @@ lined-all e f h g = let l = lays-then h (rw f at (g .laid)) in rw (← e) (l .en
 -- ---- a text on the front of what is lent for it
 
 module _ (e : Ending) (out : List ℕ) where
-  written-no : length out < length (textOf e) → {a : Answer} → a ≡ Refused 8 0 0 → (a ≡ written e out .answer) × (out ≡ written e out .bytes)
-  unfolding written copied need
+  written-no : length out < length (textOf e) → {a : Answer} → a ≡ Refused 8 0 0 → (a ≡ textTo e out .answer) × (out ≡ textTo e out .bytes)
+  unfolding textTo copied need
   written-no h f = simp tests (f, refl)
 
-  written-all : length (textOf e) ≤ length out → (answerFor e ≡ written e out .answer) × (laidAt 0 (textOf e) out ≡ written e out .bytes)
-  unfolding written copied need
+  written-all : length (textOf e) ≤ length out → (endingAnswer e ≡ textTo e out .answer) × (laidAt 0 (textOf e) out ≡ textTo e out .bytes)
+  unfolding textTo copied need
   written-all h = simp tests (refl, laid-all (textOf e) out h)
 
 module _ (n : ℕ) (out : List ℕ) {r : ℕ} (e : r ≡ length (badLine n)) where
-  pub bad-no : length out < r → {a : Answer} → a ≡ Refused 8 0 0 → (a ≡ written (BadAt n) out .answer) × (out ≡ written (BadAt n) out .bytes)
+  pub bad-no : length out < r → {a : Answer} → a ≡ Refused 8 0 0 → (a ≡ textTo (BadAt n) out .answer) × (out ≡ textTo (BadAt n) out .bytes)
   unfolding textOf
   bad-no h f = written-no (BadAt n) out (omega arith) f
 
   pub bad-all : r ≤ length out → {done : List ℕ} → done ≡ laidAt 0 (badLine n) out
-      → (Done r false 0 ≡ written (BadAt n) out .answer) × (done ≡ written (BadAt n) out .bytes)
-  unfolding textOf answerFor
+      → (Done r false 0 ≡ textTo (BadAt n) out .answer) × (done ≡ textTo (BadAt n) out .bytes)
+  unfolding textOf endingAnswer
   bad-all h f = let w = written-all (BadAt n) out (omega arith) in (ap (λ (k : ℕ). Done k false 0) e ∙ w .0, f ∙ w .1)
 
 module _ (os : List MaybeList) (out : List ℕ) {r : ℕ} (e : r ≡ length (listing os)) where
-  pub listed-no : length out < r → {a : Answer} → a ≡ Refused 8 0 0 → (a ≡ written (Listed os) out .answer) × (out ≡ written (Listed os) out .bytes)
+  pub listed-no : length out < r → {a : Answer} → a ≡ Refused 8 0 0 → (a ≡ textTo (Listed os) out .answer) × (out ≡ textTo (Listed os) out .bytes)
   unfolding textOf
   listed-no h f = written-no (Listed os) out (omega arith) f
 
   pub listed-all : r ≤ length out → {n : ℕ} {done : List ℕ} → n ≡ length os → done ≡ laidAt 0 (listing os) out
-      → (Done r true n ≡ written (Listed os) out .answer) × (done ≡ written (Listed os) out .bytes)
-  unfolding textOf answerFor
+      → (Done r true n ≡ textTo (Listed os) out .answer) × (done ≡ textTo (Listed os) out .bytes)
+  unfolding textOf endingAnswer
   listed-all h g f = let w = written-all (Listed os) out (omega arith) in (rw (e, g) (w .0), f ∙ w .1)
 
 -- ---- a room's listing, by what the tree answers of its counts
@@ -147,7 +147,7 @@ counts-done r {n} {k} {is} e = by (formed r) refl
     by false f = let g = rw f at e in let z : _≡_ {A = ℕ} 0 1 = cc in absurd (omega arith)
 
 pub listing-done : (r out : List ℕ) → formed r ≡ true → {a : Answer} {done : List ℕ}
-    → (a ≡ written (Listed (listsIn r)) out .answer) × (done ≡ written (Listed (listsIn r)) out .bytes)
+    → (a ≡ textTo (Listed (listsIn r)) out .answer) × (done ≡ textTo (Listed (listsIn r)) out .bytes)
     → (a ≡ listingTo r out .answer) × (done ≡ listingTo r out .bytes)
 unfolding listingTo need
 listing-done r out f w = rw f w

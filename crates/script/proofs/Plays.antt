@@ -15,13 +15,13 @@ use Rattle.list.proofs.Tests.{both-true}
 use Rattle.list.proofs.Writes.{front-all}
 use Rattle.inherit.specs.Asked.{MaybeList}
 use Rattle.inherit.specs.Compute.{ruleOk}
-use Rattle.tree.specs.Model.{Object, Tree, listOf, objectsOf, begun as begun-tree, after}
-use Rattle.tree.specs.Shown.{Call, settingsFrom, meant, listsIn, callOn, playedOn}
+use Rattle.tree.specs.Model.{Object, Tree, listOf, objectsOf, begun as begun-tree, after, shortIf, limitsOk}
+use Rattle.tree.specs.Shown.{Request, settingsFrom, meant, listsIn, callOn, playedOn}
 use Rattle.tree.specs.declared.Answer.{Answer}
-use Rattle.tree.specs.Room.{limitsOk, emptyRoom}
+use Rattle.tree.specs.Room.{emptyRoom}
 use Rattle.tree.specs.Formed.{formed}
 use Rattle.list.specs.Order.{need}
-use Rattle.tree.specs.Calls.{readable, short, startOk, startTo}
+use Rattle.tree.specs.Calls.{readableTo, startOk, startTo}
 use Rattle.tree.proofs.Lays.{length-settings}
 use Rattle.tree.proofs.Modelled.{objects-length}
 use Rattle.tree.proofs.Played.{accepted}
@@ -29,16 +29,16 @@ use Rattle.tree.proofs.Demand3.{Shows, demand3, call-keeps}
 use Rattle.script.proofs.Listings.{lists-length, lists-at}
 use Rattle.script.specs.declared.records.Found.{Found}
 use Rattle.script.specs.declared.records.Found.the-variants.{Cut, Bad, Record}
-use Rattle.script.specs.Record.{asked, stepOf}
-use Rattle.script.specs.Fold.{Run, past, carried, onStep, runBy, runOf, onCall, callsBy, callsOf, ahead, inPieces, joined}
+use Rattle.script.specs.Record.{recordAsks, stepOf}
+use Rattle.script.specs.Fold.{Run, past, carried, onStep, runBy, runOf, onCall, callsBy, callsOf, ahead, inPieces, allPieces}
 use Rattle.script.proofs.Folds.{run-used, pieces-same}
-use Rattle.script.specs.Play.{mapping, began, beginTo, fresh, Ending, Listed, BadAt, headOk, endOf, endingOf, endOfPieces, written, listingTo, playTo}
+use Rattle.script.specs.Play.{mapping, began, beginTo, fresh, Ending, Listed, BadAt, scriptHeadOk, endingAfter, endingOf, endOfPieces, textTo, listingTo, playTo}
 
 -- ---- the room
 
 -- the start of a script's tree is accepted
 start-done : (r : List ℕ) → length r ≡ 55400 → accepted (startTo 16 16 2 mapping none r .answer) ≡ true
-unfolding startTo need readable short startOk limitsOk ruleOk
+unfolding startTo need readableTo shortIf startOk limitsOk ruleOk
 start-done r h = rw h refl
 
 pub begun : accepted (beginTo (replicate 55400 0) .answer) ≡ true
@@ -47,7 +47,7 @@ begun = start-done (replicate 55400 0) (length-replicate {A = ℕ} 55400 0)
 
 -- whatever the room held
 begin-empty : (r : List ℕ) → length r ≡ 55400 → beginTo r .bytes ≡ emptyRoom 16 16 2 mapping none
-unfolding beginTo startTo need readable short startOk limitsOk ruleOk emptyRoom
+unfolding beginTo startTo need readableTo shortIf startOk limitsOk ruleOk emptyRoom
 begin-empty r h =
     rw h
     (front-all (emptyRoom 16 16 2 mapping none) r
@@ -58,7 +58,7 @@ unfolding fresh
 begin-any r h = begin-empty r h ∙ sym (begin-empty (replicate 55400 0) (length-replicate {A = ℕ} 55400 0))
 
 -- every mixture of calls on it is demand 3's
-pub script-shows : (qs : List Call) → Shows 55400 (playedOn qs fresh) (after (begun-tree (settingsFrom began)) (map (meant 55400) qs))
+pub script-shows : (qs : List Request) → Shows 55400 (playedOn qs fresh) (after (begun-tree (settingsFrom began)) (map (meant 55400) qs))
 unfolding beginTo fresh
 script-shows qs =
     subst (λ (n : ℕ). Shows n (playedOn qs fresh) (after (begun-tree (settingsFrom began)) (map (meant n) qs))) (length-replicate {A = ℕ} 55400 0)
@@ -81,7 +81,7 @@ unfolding runBy carried
 formed-by zero t r h = h
 formed-by (suc more) t r h =
     step-formed (stepOf t) r (λ n. runBy more (drop n t) (carried n t r)) h
-    (λ n. formed-by more (drop n t) (carried n t r) (call-keeps r h (asked (take n t))))
+    (λ n. formed-by more (drop n t) (carried n t r) (call-keeps r h (recordAsks (take n t))))
 
 pub run-formed : (t r : List ℕ) → formed r ≡ true → formed (runOf t r .room) ≡ true
 unfolding runOf
@@ -89,19 +89,19 @@ run-formed t r h = formed-by (suc (length t)) t r h
 
 -- ---- the room after a script is the room after the calls that it asks
 
-step-played : (x : Found) (r₀ : List ℕ) (qs : List Call) (next : ℕ → Run) (calls : ℕ → List Call)
+step-played : (x : Found) (r₀ : List ℕ) (qs : List Request) (next : ℕ → Run) (calls : ℕ → List Request)
     → ((n : ℕ) → next n .room ≡ playedOn (calls n) r₀) → onStep x (playedOn qs r₀) next .room ≡ playedOn (onCall x qs calls) r₀
 unfolding onStep onCall past
 step-played Cut r₀ qs next calls f = refl
 step-played Bad r₀ qs next calls f = refl
 step-played (Record n k) r₀ qs next calls f = f n
 
-played-by : (more : ℕ) (t r₀ : List ℕ) (qs : List Call) → runBy more t (playedOn qs r₀) .room ≡ playedOn (callsBy more t qs) r₀
+played-by : (more : ℕ) (t r₀ : List ℕ) (qs : List Request) → runBy more t (playedOn qs r₀) .room ≡ playedOn (callsBy more t qs) r₀
 unfolding runBy callsBy carried playedOn
 played-by zero t r₀ qs = refl
 played-by (suc more) t r₀ qs =
-    step-played (stepOf t) r₀ qs (λ n. runBy more (drop n t) (carried n t (playedOn qs r₀))) (λ n. callsBy more (drop n t) (asked (take n t) ∷ qs))
-    (λ n. played-by more (drop n t) r₀ (asked (take n t) ∷ qs))
+    step-played (stepOf t) r₀ qs (λ n. runBy more (drop n t) (carried n t (playedOn qs r₀))) (λ n. callsBy more (drop n t) (recordAsks (take n t) ∷ qs))
+    (λ n. played-by more (drop n t) r₀ (recordAsks (take n t) ∷ qs))
 
 pub run-played : (t r : List ℕ) → runOf t r .room ≡ playedOn (callsOf t) r
 unfolding runOf callsOf playedOn
@@ -109,30 +109,30 @@ run-played t r = played-by (suc (length t)) t r []
 
 -- ---- how a script ends
 
-pub head-long : (s : List ℕ) → headOk s ≡ true → 5 ≤ length s
-unfolding headOk
+pub head-long : (s : List ℕ) → scriptHeadOk s ≡ true → 5 ≤ length s
+unfolding scriptHeadOk
 head-long s h = leb-true 5 (length s) (both-true (leb 5 (length s)) _ h .0)
 
 -- what is written for the ending is what the script writes
-plays : (s : List ℕ) (e : Ending) (out : List ℕ) (a : Answer) (done : List ℕ) → endingOf s ≡ e → (a ≡ written e out .answer) × (done ≡ written e out .bytes)
+plays : (s : List ℕ) (e : Ending) (out : List ℕ) (a : Answer) (done : List ℕ) → endingOf s ≡ e → (a ≡ textTo e out .answer) × (done ≡ textTo e out .bytes)
     → (a ≡ playTo s out .answer) × (done ≡ playTo s out .bytes)
 unfolding playTo
 plays s e out a done h w = rw h w
 
 -- a wrong head
-pub plays-head : (s out : List ℕ) (a : Answer) (done : List ℕ) → headOk s ≡ false → (a ≡ written (BadAt 0) out .answer) × (done ≡ written (BadAt 0) out .bytes)
+pub plays-head : (s out : List ℕ) (a : Answer) (done : List ℕ) → scriptHeadOk s ≡ false → (a ≡ textTo (BadAt 0) out .answer) × (done ≡ textTo (BadAt 0) out .bytes)
     → (a ≡ playTo s out .answer) × (done ≡ playTo s out .bytes)
 unfolding endingOf
 plays-head s out a done h w = plays s (BadAt 0) out a done (rw h refl) w
 
 -- the records of s were playedOn: so many bytes of them were whole, and left the room so
 pub record Ran (s : List ℕ) (used : ℕ) (room : List ℕ) : Type 0 where
-  pub head : headOk s ≡ true
+  pub head : scriptHeadOk s ≡ true
   pub bytes : used ≡ runOf (drop 5 s) fresh .used
   pub rooms : room ≡ runOf (drop 5 s) fresh .room
 
 -- as the code has it, whatever r the room held
-pub ran : (s r w t : List ℕ) (used : ℕ) (room : List ℕ) → headOk s ≡ true → length r ≡ 55400 → w ≡ beginTo r .bytes → t ≡ take (length s - 5) (drop 5 s)
+pub ran : (s r w t : List ℕ) (used : ℕ) (room : List ℕ) → scriptHeadOk s ≡ true → length r ≡ 55400 → w ≡ beginTo r .bytes → t ≡ take (length s - 5) (drop 5 s)
     → used ≡ runOf t w .used → room ≡ runOf t w .room → Ran s used room
 ran s r w t used room h l b e u m =
     let k : t ≡ drop 5 s = e ∙ take-all (length s - 5) (drop 5 s) (rw length-drop (omega arith)) in
@@ -144,14 +144,14 @@ module _ (s : List ℕ) (used : ℕ) (room : List ℕ) (x : Ran s used room) whe
   ran-within = omega (arith, x .bytes, run-used (drop 5 s) fresh, length-drop 5 s, head-long s (x .head))
 
   module _ (out : List ℕ) (a : Answer) (done : List ℕ) where
-    pub plays-bad : 5 + used < length s → (a ≡ written (BadAt (5 + used)) out .answer) × (done ≡ written (BadAt (5 + used)) out .bytes)
+    pub plays-bad : 5 + used < length s → (a ≡ textTo (BadAt (5 + used)) out .answer) × (done ≡ textTo (BadAt (5 + used)) out .bytes)
         → (a ≡ playTo s out .answer) × (done ≡ playTo s out .bytes)
-    unfolding endOf endingOf
+    unfolding endingAfter endingOf
     plays-bad l w = plays s (BadAt (5 + used)) out a done (rw (x .head, ← x .bytes, ne-eqb (5 + used) (length s) (λ q. omega arith)) refl) w
 
     pub plays-whole : length s ≤ 5 + used → (a ≡ listingTo room out .answer) × (done ≡ listingTo room out .bytes)
         → (a ≡ playTo s out .answer) × (done ≡ playTo s out .bytes)
-    unfolding endOf endingOf listingTo need
+    unfolding endingAfter endingOf listingTo need
     plays-whole l w =
         let q : 5 + used ≡ length s = omega (arith, ran-within) in
         let f : formed room ≡ true = rw (x .rooms) (run-formed (drop 5 s) fresh fresh-formed) in
@@ -160,8 +160,8 @@ module _ (s : List ℕ) (used : ℕ) (room : List ℕ) (x : Ran s used room) whe
 -- ---- a script in pieces
 
 ends-by : (n used : ℕ) (t r : List ℕ) (b : Bool) → n ≡ 5 + length t → used ≤ length t
-    → endOfPieces (ahead 0 t (record { used = used; bad = b; room = r })) ≡ endOf n (record { used = used; bad = b; room = r })
-unfolding endOfPieces ahead endOf
+    → endOfPieces (ahead 0 t (record { used = used; bad = b; room = r })) ≡ endingAfter n (record { used = used; bad = b; room = r })
+unfolding endOfPieces ahead endingAfter
 ends-by n used t r b e h =
     split (length t) used
     (λ l. rw (eq-eqb (length (drop used t)) 0 (rw length-drop (omega arith)), eq-eqb (5 + used) n (omega arith)) refl)
@@ -169,7 +169,7 @@ ends-by n used t r b e h =
     (ap (λ (k : ℕ). BadAt (5 + k)) (zero-add used)))
 
 -- however its records are cut into pieces, a script ends as it does whole
-pub pieces-end : (s : List ℕ) (ps : List (List ℕ)) → headOk s ≡ true → joined ps ≡ drop 5 s
+pub pieces-end : (s : List ℕ) (ps : List (List ℕ)) → scriptHeadOk s ≡ true → allPieces ps ≡ drop 5 s
     → endOfPieces (inPieces (record { at = 0; left = []; bad = false; room = fresh }) ps) ≡ endingOf s
 unfolding endingOf
 pieces-end s ps h e =
@@ -184,8 +184,8 @@ listed-by : (b : Bool) (f os : List MaybeList) (n : ℕ) → cond b (Listed f) (
 listed-by true f os n h = let e : f ≡ os = cc in e
 listed-by false f os n h = let z : _≡_ {A = ℕ} 0 1 = cc in absurd (omega arith)
 
-ends-listed : (n : ℕ) (f : Run) (os : List MaybeList) → endOf n f ≡ Listed os → listsIn (f .room) ≡ os
-unfolding endOf
+ends-listed : (n : ℕ) (f : Run) (os : List MaybeList) → endingAfter n f ≡ Listed os → listsIn (f .room) ≡ os
+unfolding endingAfter
 ends-listed n f os h = listed-by (eqb (5 + f .used) n) (listsIn (f .room)) os (5 + f .used) h
 
 head-listed : (b : Bool) (e : Ending) (os : List MaybeList) → cond b e (BadAt 0) ≡ Listed os → e ≡ Listed os
@@ -201,7 +201,7 @@ pub record Lists (s : Tree) (os : List MaybeList) : Type 0 where
   pub all : length os ≡ length (objectsOf s)
   pub each : (i : ℕ) → i < length os → listOf (s .settings) (objectsOf s) i ≡ some (getD os i none)
 
-room-lists : (qs : List Call) → Lists (after (begun-tree (settingsFrom began)) (map (meant 55400) qs)) (listsIn (playedOn qs fresh))
+room-lists : (qs : List Request) → Lists (after (begun-tree (settingsFrom began)) (map (meant 55400) qs)) (listsIn (playedOn qs fresh))
 room-lists qs =
     let S = script-shows qs in
     let r = playedOn qs fresh in
@@ -214,5 +214,5 @@ room-lists qs =
 pub listed-afresh : (s : List ℕ) (os : List MaybeList) → endingOf s ≡ Listed os → Lists (treeOf s) os
 unfolding endingOf
 listed-afresh s os h =
-    let e = ends-listed (length s) (runOf (drop 5 s) fresh) os (head-listed (headOk s) (endOf (length s) (runOf (drop 5 s) fresh)) os h) in
+    let e = ends-listed (length s) (runOf (drop 5 s) fresh) os (head-listed (scriptHeadOk s) (endingAfter (length s) (runOf (drop 5 s) fresh)) os h) in
     subst (Lists (treeOf s)) (ap listsIn (sym (run-played (drop 5 s) fresh)) ∙ e) (room-lists (callsOf (drop 5 s)))

@@ -11,7 +11,7 @@ use native.Mathlib.Decide.{ℕ-discrete}
 use Rattle.list.specs.Bytes.{Bytes}
 use Rattle.list.proofs.Little.{bytes-drop, le-lt, le-drop-append}
 use Rattle.list.proofs.Places.{split}
-use Rattle.script.specs.Record.{numberOf, nameEnd, namesEnd, listEnd, flagOk, sizeOf, formOk, stepOf}
+use Rattle.script.specs.Record.{recordNumber, nameEnd, namesEnd, listEnd, flagOk, recordSize, formOk, stepOf}
 use Rattle.script.specs.declared.records.Found.the-variants.{Cut, Bad, Record}
 use Rattle.script.proofs.Tables.{size-1, size-2, size-3, size-4, size-5, form-1, form-2, form-3, form-4, form-5}
 
@@ -57,9 +57,9 @@ kinds {ℓ} : {X : Type ℓ} (n : ℕ) → (n ≡ 1 → X) → (n ≡ 2 → X) �
 kinds n a b c d o = by-number n 1 a (λ x. by-number n 2 b (λ y. by-number n 3 c (λ z. by-number n 4 d (λ w. o x y z w))))
 
 module _ (t : List ℕ) where
-  pub size-some : 1 ≤ sizeOf t
+  pub size-some : 1 ≤ recordSize t
   size-some =
-      kinds (numberOf t)
+      kinds (recordNumber t)
       (λ e. omega (arith, size-1 t e, list-some (namesEnd 20 t) t))
       (λ e. omega (arith, size-2 t e, list-some 2 t))
       (λ e. omega (arith, size-3 t e))
@@ -67,9 +67,9 @@ module _ (t : List ℕ) where
       (λ x y z w. omega (arith, size-5 t x y z w))
 
   -- 24 bytes, two names of 255 and a list of 65,535
-  pub size-most : Bytes t → sizeOf t ≤ 66069
+  pub size-most : Bytes t → recordSize t ≤ 66069
   size-most h =
-      kinds (numberOf t)
+      kinds (recordNumber t)
       (λ e. omega (arith, size-1 t e, list-most (namesEnd 20 t) t h, name-most (nameEnd 20 t) t h, name-most 20 t h))
       (λ e. omega (arith, size-2 t e, list-most 2 t h))
       (λ e. omega (arith, size-3 t e))
@@ -89,45 +89,45 @@ never z = omega arith
 
 module _ (t : List ℕ) where
   -- a record is one of the three, and what that says of its length
-  pub by-step {ℓ} : {X : Type ℓ} → (stepOf t ≡ Cut → length t < sizeOf t → X) → (stepOf t ≡ Bad → sizeOf t ≤ length t → X)
-      → (stepOf t ≡ Record (sizeOf t) (numberOf t) → sizeOf t ≤ length t → X) → X
+  pub by-step {ℓ} : {X : Type ℓ} → (stepOf t ≡ Cut → length t < recordSize t → X) → (stepOf t ≡ Bad → recordSize t ≤ length t → X)
+      → (stepOf t ≡ Record (recordSize t) (recordNumber t) → recordSize t ≤ length t → X) → X
   unfolding stepOf
   by-step cut bad whole =
-      split (sizeOf t) (length t)
+      split (recordSize t) (length t)
       (λ h.
       by-test (formOk t)
-      (λ f. whole (rw (le-leb (sizeOf t) (length t) h, f)) h)
-      (λ f. bad (rw (le-leb (sizeOf t) (length t) h, f)) h))
-      (λ h. cut (rw (lt-leb (sizeOf t) (length t) h)) h)
+      (λ f. whole (rw (le-leb (recordSize t) (length t) h, f)) h)
+      (λ f. bad (rw (le-leb (recordSize t) (length t) h, f)) h))
+      (λ h. cut (rw (lt-leb (recordSize t) (length t) h)) h)
 
-  pub step-record : (n k : ℕ) → stepOf t ≡ Record n k → (n ≡ sizeOf t) × (n ≤ length t)
+  pub step-record : (n k : ℕ) → stepOf t ≡ Record n k → (n ≡ recordSize t) × (n ≤ length t)
   step-record n k e =
-      by-step (λ f h. absurd (never (cc))) (λ f h. absurd (never (cc))) (λ f h. let q : n ≡ sizeOf t = cc in (q, omega arith))
+      by-step (λ f h. absurd (never (cc))) (λ f h. absurd (never (cc))) (λ f h. let q : n ≡ recordSize t = cc in (q, omega arith))
 
-  pub step-bad : stepOf t ≡ Bad → sizeOf t ≤ length t
+  pub step-bad : stepOf t ≡ Bad → recordSize t ≤ length t
   step-bad e = by-step (λ f h. absurd (never (cc))) (λ f h. h) (λ f h. h)
 
-  pub step-cut : stepOf t ≡ Cut → length t < sizeOf t
+  pub step-cut : stepOf t ≡ Cut → length t < recordSize t
   step-cut e = by-step (λ f h. h) (λ f h. absurd (never (cc))) (λ f h. absurd (never (cc)))
 
-  pub step-short : length t < sizeOf t → stepOf t ≡ Cut
+  pub step-short : length t < recordSize t → stepOf t ≡ Cut
   step-short h = by-step (λ f g. f) (λ f g. absurd (omega arith)) (λ f g. absurd (omega arith))
 
 -- ---- bytes behind
 
-module _ (t u : List ℕ) (h : sizeOf t ≤ length t) where
-  byte-append : (i : ℕ) → i < sizeOf t → getD (t ++ u) i 0 ≡ getD t i 0
+module _ (t u : List ℕ) (h : recordSize t ≤ length t) where
+  byte-append : (i : ℕ) → i < recordSize t → getD (t ++ u) i 0 ≡ getD t i 0
   byte-append i l = List·getD-append t u 0 i (omega arith)
 
-  number-append : numberOf (t ++ u) ≡ numberOf t
+  number-append : recordNumber (t ++ u) ≡ recordNumber t
   number-append = byte-append 0 (size-some t)
 
-  behind : {k : ℕ} → (numberOf t ≡ k → ⊥) → numberOf (t ++ u) ≡ k → ⊥
+  behind : {k : ℕ} → (recordNumber t ≡ k → ⊥) → recordNumber (t ++ u) ≡ k → ⊥
   behind f e = f (sym number-append ∙ e)
 
-  pub size-append : sizeOf (t ++ u) ≡ sizeOf t
+  pub size-append : recordSize (t ++ u) ≡ recordSize t
   size-append =
-      kinds (numberOf t)
+      kinds (recordNumber t)
       (λ e.
       let k = size-1 t e in
       let m : namesEnd 20 t ≤ length t = omega (arith, list-some (namesEnd 20 t) t) in
@@ -140,14 +140,14 @@ module _ (t u : List ℕ) (h : sizeOf t ≤ length t) where
       (λ e. let k = size-4 t e in size-4 (t ++ u) (number-append ∙ e) ∙ names-append 2 t u (omega arith) ∙ sym k)
       (λ x y z w. size-5 (t ++ u) (behind x) (behind y) (behind z) (behind w) ∙ sym (size-5 t x y z w))
 
-  flag-append : (i : ℕ) → i < sizeOf t → flagOk i (t ++ u) ≡ flagOk i t
+  flag-append : (i : ℕ) → i < recordSize t → flagOk i (t ++ u) ≡ flagOk i t
   flag-append i l = ap (λ (n : ℕ). leb n 1) (byte-append i l)
 
   pub form-append : formOk (t ++ u) ≡ formOk t
   form-append =
-      kinds (numberOf t)
+      kinds (recordNumber t)
       (λ e.
-      let l : 20 ≤ sizeOf t = omega (arith, size-1 t e, list-some (namesEnd 20 t) t, name-some (nameEnd 20 t) t, name-some 20 t) in
+      let l : 20 ≤ recordSize t = omega (arith, size-1 t e, list-some (namesEnd 20 t) t, name-some (nameEnd 20 t) t, name-some 20 t) in
       form-1 (t ++ u) (number-append ∙ e) ∙ ap₂ _&&_ (flag-append 2 (omega arith)) (flag-append 3 (omega arith)) ∙ sym (form-1 t e))
       (λ e. form-2 (t ++ u) (number-append ∙ e) ∙ sym (form-2 t e))
       (λ e. form-3 (t ++ u) (number-append ∙ e) ∙ flag-append 2 (omega (arith, size-3 t e)) ∙ sym (form-3 t e))
@@ -158,8 +158,8 @@ module _ (t u : List ℕ) (h : sizeOf t ≤ length t) where
 pub step-append : (t u : List ℕ) → (stepOf t ≡ Cut → ⊥) → stepOf (t ++ u) ≡ stepOf t
 unfolding stepOf
 step-append t u h =
-    split (sizeOf t) (length t)
+    split (recordSize t) (length t)
     (λ l.
-    let m : sizeOf t ≤ length (t ++ u) = simp length-append (omega arith) in
-    rw (size-append t u l, form-append t u l, number-append t u l, le-leb (sizeOf t) (length (t ++ u)) m, le-leb (sizeOf t) (length t) l))
+    let m : recordSize t ≤ length (t ++ u) = simp length-append (omega arith) in
+    rw (size-append t u l, form-append t u l, number-append t u l, le-leb (recordSize t) (length (t ++ u)) m, le-leb (recordSize t) (length t) l))
     (λ l. absurd (h (step-short t l)))

@@ -10,72 +10,72 @@ use Rattle.list.specs.Bytes.{le, part, guidAt}
 use Rattle.inherit.specs.Asked.{MaybeList, lent}
 use Rattle.tree.specs.Shown.{change, undo}
 use Rattle.tree.specs.Calls.{list, mark, owners, add, alter}
-use Rattle.script.specs.Record.{numberOf, nameIn, nameEnd, namesEnd, listIn, listEnd, flagOk, flag, parentOf, sizeOf, formOk, newIn, asked}
+use Rattle.script.specs.Record.{recordNumber, nameIn, nameEnd, namesEnd, listIn, listEnd, flagOk, flag, parentNamed, recordSize, formOk, newIn, recordAsks}
 
 module _ (t : List ℕ) where
-  module _ (h : numberOf t ≡ 1) where
-    pub size-1 : sizeOf t ≡ listEnd (namesEnd 20 t) t
-    unfolding sizeOf
+  module _ (h : recordNumber t ≡ 1) where
+    pub size-1 : recordSize t ≡ listEnd (namesEnd 20 t) t
+    unfolding recordSize
     size-1 = rw h refl
 
     pub form-1 : formOk t ≡ (flagOk 2 t && flagOk 3 t)
     unfolding formOk
     form-1 = rw h refl
 
-    pub asked-1 : asked t ≡ change (add (newIn t))
-    unfolding asked
+    pub asked-1 : recordAsks t ≡ change (add (newIn t))
+    unfolding recordAsks
     asked-1 = rw h refl
 
-  module _ (h : numberOf t ≡ 2) where
-    pub size-2 : sizeOf t ≡ listEnd 2 t
-    unfolding sizeOf
+  module _ (h : recordNumber t ≡ 2) where
+    pub size-2 : recordSize t ≡ listEnd 2 t
+    unfolding recordSize
     size-2 = rw h refl
 
     pub form-2 : formOk t ≡ true
     unfolding formOk
     form-2 = rw h refl
 
-    pub asked-2 : asked t ≡ change (alter (getD t 1 0) (list (listIn 2 t)))
-    unfolding asked
+    pub asked-2 : recordAsks t ≡ change (alter (getD t 1 0) (list (listIn 2 t)))
+    unfolding recordAsks
     asked-2 = rw h refl
 
-  module _ (h : numberOf t ≡ 3) where
-    pub size-3 : sizeOf t ≡ 3
-    unfolding sizeOf
+  module _ (h : recordNumber t ≡ 3) where
+    pub size-3 : recordSize t ≡ 3
+    unfolding recordSize
     size-3 = rw h refl
 
     pub form-3 : formOk t ≡ flagOk 2 t
     unfolding formOk
     form-3 = rw h refl
 
-    pub asked-3 : asked t ≡ change (alter (getD t 1 0) (mark (flag 2 t)))
-    unfolding asked
+    pub asked-3 : recordAsks t ≡ change (alter (getD t 1 0) (mark (flag 2 t)))
+    unfolding recordAsks
     asked-3 = rw h refl
 
-  module _ (h : numberOf t ≡ 4) where
-    pub size-4 : sizeOf t ≡ namesEnd 2 t
-    unfolding sizeOf
+  module _ (h : recordNumber t ≡ 4) where
+    pub size-4 : recordSize t ≡ namesEnd 2 t
+    unfolding recordSize
     size-4 = rw h refl
 
     pub form-4 : formOk t ≡ true
     unfolding formOk
     form-4 = rw h refl
 
-    pub asked-4 : asked t ≡ change (alter (getD t 1 0) (owners (nameIn 2 t) (nameIn (nameEnd 2 t) t)))
-    unfolding asked
+    pub asked-4 : recordAsks t ≡ change (alter (getD t 1 0) (owners (nameIn 2 t) (nameIn (nameEnd 2 t) t)))
+    unfolding recordAsks
     asked-4 = rw h refl
 
-  module _ (n1 : numberOf t ≡ 1 → ⊥) (n2 : numberOf t ≡ 2 → ⊥) (n3 : numberOf t ≡ 3 → ⊥) (n4 : numberOf t ≡ 4 → ⊥) where
-    pub size-5 : sizeOf t ≡ 1
-    unfolding sizeOf
+  module _ (n1 : recordNumber t ≡ 1 → ⊥) (n2 : recordNumber t ≡ 2 → ⊥) (n3 : recordNumber t ≡ 3 → ⊥) (n4 : recordNumber t ≡ 4 → ⊥) where
+    pub size-5 : recordSize t ≡ 1
+    unfolding recordSize
     size-5 = simp (ne-eqb, n1, n2, n3, n4)
 
-    pub form-5 : formOk t ≡ eqb (numberOf t) 5
+    pub form-5 : formOk t ≡ eqb (recordNumber t) 5
     unfolding formOk
     form-5 = simp (ne-eqb, n1, n2, n3, n4)
 
-    pub asked-5 : asked t ≡ undo
-    unfolding asked
+    pub asked-5 : recordAsks t ≡ undo
+    unfolding recordAsks
     asked-5 = simp (ne-eqb, n1, n2, n3, n4)
 
 -- ---- a record's parts as the calls take them
@@ -90,7 +90,7 @@ list-by t p at n e h = rw (h, e) refl
 
 -- the object that record 1 adds, field by field
 module _ (t : List ℕ) (p : ℕ) (c m : Bool) (k o g : List ℕ) (l : MaybeList) where
-  pub new-by : p ≡ parentOf (getD t 1 0) → c ≡ flag 2 t → m ≡ flag 3 t → k ≡ guidAt t 4 → o ≡ nameIn 20 t → g ≡ nameIn (nameEnd 20 t) t
+  pub new-by : p ≡ parentNamed (getD t 1 0) → c ≡ flag 2 t → m ≡ flag 3 t → k ≡ guidAt t 4 → o ≡ nameIn 20 t → g ≡ nameIn (nameEnd 20 t) t
       → l ≡ listIn (namesEnd 20 t) t
       → record { parent = p; container = c; mark = m; type = k; owner = o; group = g; list = l } ≡ newIn t
   new-by hp hc hm hk ho hg hl = rw (hp, hc, hm, hk, ho, hg, hl) refl

@@ -15,10 +15,10 @@ use Rattle.tree.specs.Calls.{list, mark, owners, nobody, alter}
 use Rattle.tree.proofs.Worked.{lists, bytes-open, entries-open, lists-open, copies-open, last-open, compute-open}
 use Rattle.tree.proofs.Trees.{model-open, calls-open}
 use Rattle.script.specs.declared.records.Found.the-variants.{Cut, Bad, Record}
-use Rattle.script.specs.Record.{nameEnd, listEnd, parentOf, sizeOf, formOk, asked, stepOf}
+use Rattle.script.specs.Record.{nameEnd, listEnd, parentNamed, recordSize, formOk, recordAsks, stepOf}
 use Rattle.script.specs.Fold.{past, onStep, runBy, runOf, onCall, callsBy, callsOf}
 use Rattle.script.specs.Text.{digits, decimal, columnsBy, columns, line, lines, heading, listing, badLine}
-use Rattle.script.specs.Play.{mapping, headOk, Listed, endOf, fresh, endingOf, textOf}
+use Rattle.script.specs.Play.{mapping, scriptHeadOk, Listed, endingAfter, fresh, endingOf, textOf}
 use Rattle.script.proofs.Plays.{treeOf, listed-afresh}
 
 -- ---- records
@@ -35,17 +35,17 @@ pub steps-worked :
     × ((stepOf (2 ∷ 0 ∷ 0 ∷ 0 ∷ []) ≡ Record 4 2)
     × ((stepOf (2 ∷ 0 ∷ 1 ∷ 0 ∷ []) ≡ Cut)
     × (stepOf (4 ∷ 0 ∷ 0 ∷ 2 ∷ 7 ∷ 7 ∷ 1 ∷ []) ≡ Record 6 4)))))))))
-unfolding le nameEnd listEnd sizeOf formOk stepOf
+unfolding le nameEnd listEnd recordSize formOk stepOf
 steps-worked = (refl, (refl, (refl, (refl, (refl, (refl, (refl, (refl, (refl, refl)))))))))
 
 -- a length of 0 removes the list; FF is no parent, and an object's number like any other
 pub asked-worked :
-    (asked (2 ∷ 7 ∷ 0 ∷ 0 ∷ []) ≡ change (alter 7 (list none)))
-    × ((asked (2 ∷ 0xFF ∷ 1 ∷ 0 ∷ 9 ∷ []) ≡ change (alter 255 (list (some (9 ∷ [])))))
-    × ((asked (3 ∷ 1 ∷ 1 ∷ []) ≡ change (alter 1 (mark true)))
-    × ((asked (4 ∷ 0 ∷ 0 ∷ 2 ∷ 7 ∷ 8 ∷ []) ≡ change (alter 0 (owners [] (7 ∷ 8 ∷ []))))
-    × ((asked (5 ∷ []) ≡ undo) × ((parentOf 0xFF ≡ nobody) × (parentOf 0xFE ≡ 254))))))
-unfolding le part nameEnd listEnd parentOf asked
+    (recordAsks (2 ∷ 7 ∷ 0 ∷ 0 ∷ []) ≡ change (alter 7 (list none)))
+    × ((recordAsks (2 ∷ 0xFF ∷ 1 ∷ 0 ∷ 9 ∷ []) ≡ change (alter 255 (list (some (9 ∷ [])))))
+    × ((recordAsks (3 ∷ 1 ∷ 1 ∷ []) ≡ change (alter 1 (mark true)))
+    × ((recordAsks (4 ∷ 0 ∷ 0 ∷ 2 ∷ 7 ∷ 8 ∷ []) ≡ change (alter 0 (owners [] (7 ∷ 8 ∷ []))))
+    × ((recordAsks (5 ∷ []) ≡ undo) × ((parentNamed 0xFF ≡ nobody) × (parentNamed 0xFE ≡ 254))))))
+unfolding le part nameEnd listEnd parentNamed recordAsks
 asked-worked = (refl, (refl, (refl, (refl, (refl, (refl, refl))))))
 
 -- ---- texts
@@ -84,12 +84,12 @@ document = 0x41 ∷ 0x58 ∷ 0x53 ∷ 1 ∷ 0 ∷ records
 
 -- its two records are whole, and no byte is left
 whole : endingOf document ≡ Listed (listsIn (runOf records fresh .room))
-unfolding le flatten nameEnd listEnd sizeOf formOk stepOf past onStep runBy runOf headOk endOf endingOf
+unfolding le flatten nameEnd listEnd recordSize formOk stepOf past onStep runBy runOf scriptHeadOk endingAfter endingOf
 whole = refl
 
 -- what its records open, beside what a tree does
 records-open : Unit {0}
-unfolding nameEnd listEnd parentOf sizeOf formOk asked stepOf onCall callsBy callsOf calls-open model-open
+unfolding nameEnd listEnd parentNamed recordSize formOk recordAsks stepOf onCall callsBy callsOf calls-open model-open
 records-open = tt
 
 -- what the model says of its two records: two objects, and their lists

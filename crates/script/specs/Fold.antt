@@ -3,11 +3,11 @@ use Prim.Native.Nat.{ℕ, zero, suc, _+_}
 use mathlib.Core.List.{List, [], _∷_, _++_}
 use mathlib.Core.Bool.{Bool, true, false, cond}
 use lib.ListN.{length, take, drop}
-use Rattle.tree.specs.Shown.{Call, callOn}
-use Rattle.tree.specs.Calls.{Change}
+use Rattle.tree.specs.Shown.{Request, callOn}
+use Rattle.tree.specs.Calls.{ChangeGiven}
 use Rattle.script.specs.declared.records.Found.{Found}
 use Rattle.script.specs.declared.records.Found.the-variants.{Cut, Bad, Record}
-use Rattle.script.specs.Record.{asked, stepOf}
+use Rattle.script.specs.Record.{recordAsks, stepOf}
 
 -- how many bytes were whole records, whether a bad record comes next, and the room as the records leave it
 pub record Run : Type 0 where
@@ -21,7 +21,7 @@ past n f = record { used = n + f .used; bad = f .bad; room = f .room }
 
 -- the record in the first n bytes of t is carried out; where the tree refuses it, it is passed over
 unfoldable pub carried : ℕ → List ℕ → List ℕ → List ℕ
-carried n t r = callOn (asked (take n t)) r .bytes
+carried n t r = callOn (recordAsks (take n t)) r .bytes
 
 -- a run stops at a record that is cut or bad, and goes on after a whole one
 unfoldable pub onStep : Found → List ℕ → (ℕ → Run) → Run
@@ -40,16 +40,16 @@ runOf t r = runBy (suc (length t)) t r
 
 -- ---- what a script asks: the calls of its whole records, the latest first, in front of the calls qs that came earlier
 
-unfoldable pub onCall : Found → List Call → (ℕ → List Call) → List Call
+unfoldable pub onCall : Found → List Request → (ℕ → List Request) → List Request
 onCall Cut qs next = qs
 onCall Bad qs next = qs
 onCall (Record n k) qs next = next n
 
-unfoldable pub callsBy : ℕ → List ℕ → List Call → List Call
+unfoldable pub callsBy : ℕ → List ℕ → List Request → List Request
 callsBy zero t qs = qs
-callsBy (suc more) t qs = onCall (stepOf t) qs (λ n. callsBy more (drop n t) (asked (take n t) ∷ qs))
+callsBy (suc more) t qs = onCall (stepOf t) qs (λ n. callsBy more (drop n t) (recordAsks (take n t) ∷ qs))
 
-unfoldable pub callsOf : List ℕ → List Call
+unfoldable pub callsOf : List ℕ → List Request
 callsOf t = callsBy (suc (length t)) t []
 
 -- ---- a script's records handed over in pieces: what is left of one piece stands in front of the next
@@ -72,9 +72,9 @@ unfoldable pub inPieces : Stage → List (List ℕ) → Stage
 inPieces g [] = g
 inPieces g (p ∷ ps) = inPieces (onPiece g p) ps
 
-unfoldable pub joined : List (List ℕ) → List ℕ
-joined [] = []
-joined (p ∷ ps) = p ++ joined ps
+unfoldable pub allPieces : List (List ℕ) → List ℕ
+allPieces [] = []
+allPieces (p ∷ ps) = p ++ allPieces ps
 
 -- ---- how the code goes on from record to record. Only private functions' contracts cite what follows
 

@@ -29,8 +29,8 @@ unfoldable pub beginTo : List ℕ → Outcome
 beginTo r = startWith began r
 
 -- `AXS` and the 16-bit version 1
-unfoldable pub headOk : List ℕ → Bool
-headOk s =
+unfoldable pub scriptHeadOk : List ℕ → Bool
+scriptHeadOk s =
     leb 5 (length s)
     && (eqb (getD s 0 0) 0x41
     && (eqb (getD s 1 0) 0x58
@@ -43,15 +43,15 @@ pub data Ending : Type 0 where
   BadAt : ℕ → Ending
 
 -- all bytes were whole records, or one that is bad or cut begins where they end
-unfoldable pub endOf : ℕ → Run → Ending
-endOf n f = cond (eqb (5 + f .used) n) (Listed (listsIn (f .room))) (BadAt (5 + f .used))
+unfoldable pub endingAfter : ℕ → Run → Ending
+endingAfter n f = cond (eqb (5 + f .used) n) (Listed (listsIn (f .room))) (BadAt (5 + f .used))
 
 -- the room that a script is playedOn in
 unfoldable pub fresh : List ℕ
 fresh = beginTo (replicate 55400 0) .bytes
 
 unfoldable pub endingOf : List ℕ → Ending
-endingOf s = cond (headOk s) (endOf (length s) (runOf (drop 5 s) fresh)) (BadAt 0)
+endingOf s = cond (scriptHeadOk s) (endingAfter (length s) (runOf (drop 5 s) fresh)) (BadAt 0)
 
 -- the same of a script whose records were handed over in pieces
 unfoldable pub endOfPieces : Stage → Ending
@@ -63,19 +63,19 @@ textOf (Listed os) = listing os
 textOf (BadAt n) = badLine n
 
 -- its length, whether it is the listing, and how many objects are in it
-unfoldable pub answerFor : Ending → Answer
-answerFor (Listed os) = Done (length (listing os)) true (length os)
-answerFor (BadAt n) = Done (length (badLine n)) false 0
+unfoldable pub endingAnswer : Ending → Answer
+endingAnswer (Listed os) = Done (length (listing os)) true (length os)
+endingAnswer (BadAt n) = Done (length (badLine n)) false 0
 
-unfoldable pub written : Ending → List ℕ → Outcome
-written e out = copied (answerFor e) (textOf e) out
+unfoldable pub textTo : Ending → List ℕ → Outcome
+textTo e out = copied (endingAnswer e) (textOf e) out
 
 -- ---- the calls
 
 -- a room's listing: 13, 8
 unfoldable pub listingTo : List ℕ → List ℕ → Outcome
-listingTo r out = need (formed r) (refuse 13 0 0 out) (written (Listed (listsIn r)) out)
+listingTo r out = need (formed r) (refuse 13 0 0 out) (textTo (Listed (listsIn r)) out)
 
 -- a whole script: 8
 unfoldable pub playTo : List ℕ → List ℕ → Outcome
-playTo s out = written (endingOf s) out
+playTo s out = textTo (endingOf s) out

@@ -6,16 +6,16 @@ use lib.ListN.{length, getD, drop}
 use lib.Dec.{eqb, leb}
 use Rattle.list.specs.Bytes.{le, part, guidAt}
 use Rattle.inherit.specs.Asked.{MaybeList, lent}
-use Rattle.tree.specs.Shown.{Call, change, undo}
+use Rattle.tree.specs.Shown.{Request, change, undo}
 use Rattle.tree.specs.Held.{New}
-use Rattle.tree.specs.Calls.{list, mark, owners, nobody, Change, add, alter}
+use Rattle.tree.specs.Calls.{list, mark, owners, nobody, ChangeGiven, add, alter}
 use Rattle.script.specs.declared.records.Found.{Found}
 use Rattle.script.specs.declared.records.Found.the-variants.{Cut, Bad, Record}
 
 -- ---- parts of a record
 
-abbrev pub numberOf : List ℕ → ℕ
-numberOf t = getD t 0 0
+abbrev pub recordNumber : List ℕ → ℕ
+recordNumber t = getD t 0 0
 
 -- a length byte at `at`, then as many bytes: an owner or a group; and where it ends
 abbrev pub nameIn : ℕ → List ℕ → List ℕ
@@ -43,8 +43,8 @@ abbrev pub flag : ℕ → List ℕ → Bool
 flag at t = eqb (getD t at 0) 1
 
 -- the parent byte: FF is none
-unfoldable pub parentOf : ℕ → ℕ
-parentOf b = cond (eqb b 0xFF) nobody b
+unfoldable pub parentNamed : ℕ → ℕ
+parentNamed b = cond (eqb b 0xFF) nobody b
 
 -- ---- the five records
 
@@ -55,28 +55,28 @@ parentOf b = cond (eqb b 0xFF) nobody b
 -- 5 undo
 
 -- how long a record is; undo, and an unknown one, is its number alone
-unfoldable pub sizeOf : List ℕ → ℕ
-sizeOf t =
-    cond (eqb (numberOf t) 1) (listEnd (namesEnd 20 t) t)
-    (cond (eqb (numberOf t) 2) (listEnd 2 t)
-    (cond (eqb (numberOf t) 3) 3
-    (cond (eqb (numberOf t) 4) (namesEnd 2 t)
+unfoldable pub recordSize : List ℕ → ℕ
+recordSize t =
+    cond (eqb (recordNumber t) 1) (listEnd (namesEnd 20 t) t)
+    (cond (eqb (recordNumber t) 2) (listEnd 2 t)
+    (cond (eqb (recordNumber t) 3) 3
+    (cond (eqb (recordNumber t) 4) (namesEnd 2 t)
     1)))
 
 -- no kind or mark above 1, no unknown record
 unfoldable pub formOk : List ℕ → Bool
 formOk t =
-    cond (eqb (numberOf t) 1) (flagOk 2 t && flagOk 3 t)
-    (cond (eqb (numberOf t) 2) true
-    (cond (eqb (numberOf t) 3) (flagOk 2 t)
-    (cond (eqb (numberOf t) 4) true
-    (eqb (numberOf t) 5))))
+    cond (eqb (recordNumber t) 1) (flagOk 2 t && flagOk 3 t)
+    (cond (eqb (recordNumber t) 2) true
+    (cond (eqb (recordNumber t) 3) (flagOk 2 t)
+    (cond (eqb (recordNumber t) 4) true
+    (eqb (recordNumber t) 5))))
 
 -- the object that record 1 adds
 abbrev pub newIn : List ℕ → New
 newIn t =
     record {
-      parent = parentOf (getD t 1 0);
+      parent = parentNamed (getD t 1 0);
       container = flag 2 t;
       mark = flag 3 t;
       type = guidAt t 4;
@@ -86,14 +86,14 @@ newIn t =
     }
 
 -- what a whole record of good form asks of a tree: the number that is left is 5, undo
-unfoldable pub asked : List ℕ → Call
-asked t =
-    cond (eqb (numberOf t) 1) (change (add (newIn t)))
-    (cond (eqb (numberOf t) 2) (change (alter (getD t 1 0) (list (listIn 2 t))))
-    (cond (eqb (numberOf t) 3) (change (alter (getD t 1 0) (mark (flag 2 t))))
-    (cond (eqb (numberOf t) 4) (change (alter (getD t 1 0) (owners (nameIn 2 t) (nameIn (nameEnd 2 t) t))))
+unfoldable pub recordAsks : List ℕ → Request
+recordAsks t =
+    cond (eqb (recordNumber t) 1) (change (add (newIn t)))
+    (cond (eqb (recordNumber t) 2) (change (alter (getD t 1 0) (list (listIn 2 t))))
+    (cond (eqb (recordNumber t) 3) (change (alter (getD t 1 0) (mark (flag 2 t))))
+    (cond (eqb (recordNumber t) 4) (change (alter (getD t 1 0) (owners (nameIn 2 t) (nameIn (nameEnd 2 t) t))))
     undo)))
 
 -- the record at the front of t: cut where bytes of it are missing, bad by its form, else its length and its number
 unfoldable pub stepOf : List ℕ → Found
-stepOf t = cond (leb (sizeOf t) (length t)) (cond (formOk t) (Record (sizeOf t) (numberOf t)) Bad) Cut
+stepOf t = cond (leb (recordSize t) (length t)) (cond (formOk t) (Record (recordSize t) (recordNumber t)) Bad) Cut

@@ -1,7 +1,7 @@
 // Plays scripts on a tree of objects: one record, records one after another, the listing's text, a whole script.
 ghost use mathlib.Core.Path.{_≡_};
 ghost use lib.ListN.{length};
-ghost use Rattle.script.specs.Play.{headOk, beginTo, playTo};
+ghost use Rattle.script.specs.Play.{scriptHeadOk, beginTo, playTo};
 use inherit::Mapping;
 use list::byte_in;
 use list::half_in;
@@ -24,7 +24,7 @@ pub const ROOM: usize = 55400;
 
 // The script's head: `AXS` and the 16-bit version 1.
 pub fn head_ok(script: &[u8]) -> bool
-    ensures { λ b. ⌜ b ≡ headOk (now (script .entry)) ⌝ }
+    ensures { λ b. ⌜ b ≡ scriptHeadOk (now (script .entry)) ⌝ }
 {
     if script.len() < 5 {
         return false;

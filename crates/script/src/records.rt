@@ -4,7 +4,7 @@ ghost use Prim.Native.Nat.{_+_, _≤_};
 ghost use lib.ListN.{getD};
 ghost use Rattle.tree.specs.Shown.{undo, callOn};
 ghost use Rattle.tree.specs.Calls.{list as Edit·list, owners as Edit·owners, addTo, alterTo};
-ghost use Rattle.script.specs.Record.{nameIn, nameEnd, listIn, listEnd, flagOk, flag as Record·flag, parentOf, sizeOf, formOk, newIn, asked, stepOf};
+ghost use Rattle.script.specs.Record.{nameIn, nameEnd, listIn, listEnd, flagOk, flag as Record·flag, parentNamed, recordSize, formOk, newIn, recordAsks, stepOf};
 use list::byte_in;
 use list::guid_at;
 use list::half_in;
@@ -37,7 +37,7 @@ fn list_end(t: &[u8], at: usize) -> usize
 
 // How long a record is.
 fn size(t: &[u8]) -> usize
-    ensures { λ r. ⌜ r ≡ sizeOf (now (t .entry)) ⌝ }
+    ensures { λ r. ⌜ r ≡ recordSize (now (t .entry)) ⌝ }
 {
     let number = byte_in(t, 0);
     if number == 1 {
@@ -110,7 +110,7 @@ pub fn step(t: &[u8]) -> Found
 
 // The parent byte as tree::add takes it.
 fn parent_of(b: u8) -> u32
-    ensures { λ r. ⌜ r ≡ parentOf b ⌝ }
+    ensures { λ r. ⌜ r ≡ parentNamed b ⌝ }
 {
     if b == 0xFF {
         return 0xFFFFFFFF;
@@ -166,7 +166,7 @@ fn set_owner(room: &mut [u8], t: &[u8]) -> Answer
 
 // What a whole record asks of the tree.
 pub(crate) fn carry_out(room: &mut [u8], t: &[u8]) -> Answer
-    ensures { λ a. ⌜ (a ≡ callOn (asked (now (t .entry))) (now (room .entry)) .answer) × (now (room .exit) ≡ callOn (asked (now (t .entry))) (now (room .entry)) .bytes) ⌝ }
+    ensures { λ a. ⌜ (a ≡ callOn (recordAsks (now (t .entry))) (now (room .entry)) .answer) × (now (room .exit) ≡ callOn (recordAsks (now (t .entry))) (now (room .entry)) .bytes) ⌝ }
 {
     let number = byte_in(t, 0);
     if number == 1 {

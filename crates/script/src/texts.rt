@@ -11,7 +11,7 @@ ghost use Rattle.tree.specs.Room.{objects, slot};
 ghost use Rattle.tree.specs.Held.{held};
 ghost use Rattle.tree.specs.declared.Answer.the-variants.{Refused as Answer·Refused};
 ghost use Rattle.script.specs.Text.{decimal as Text·decimal, line, listing as Text·listing, badLine, laidAt, newline, columnsBy};
-ghost use Rattle.script.specs.Play.{Listed as Ending·Listed, BadAt as Ending·BadAt, written, listingTo};
+ghost use Rattle.script.specs.Play.{Listed as Ending·Listed, BadAt as Ending·BadAt, textTo, listingTo};
 use tree::Answer;
 
 // Puts bytes at `at`.
@@ -108,7 +108,7 @@ fn lay_listing(room: &[u8], n: usize, out: &mut [u8]) -> usize
 // Measures the listing, and writes it where there is room.
 fn give_listing(room: &[u8], n: u16, out: &mut [u8]) -> Answer
     requires { ⌜ (formed (now room) ≡ true) × (n ≡ objects (now room)) ⌝ }
-    ensures { λ a. ⌜ (a ≡ written (Ending·Listed (listsIn (now (room .entry)))) (now (out .entry)) .answer) × (now (out .exit) ≡ written (Ending·Listed (listsIn (now (room .entry)))) (now (out .entry)) .bytes) ⌝ }
+    ensures { λ a. ⌜ (a ≡ textTo (Ending·Listed (listsIn (now (room .entry)))) (now (out .entry)) .answer) × (now (out .exit) ≡ textTo (Ending·Listed (listsIn (now (room .entry)))) (now (out .entry)) .bytes) ⌝ }
 {
     let long = lay_listing(room, n as usize, &mut [0u8; 1]);
     if out.len() < long {
@@ -166,7 +166,7 @@ fn lay_bad(n: u64, out: &mut [u8]) -> usize
 
 // Writes the line that says where a script is bad.
 pub fn bad_at(n: u64, out: &mut [u8]) -> Answer
-    ensures { λ a. ⌜ (a ≡ written (Ending·BadAt n) (now (out .entry)) .answer) × (now (out .exit) ≡ written (Ending·BadAt n) (now (out .entry)) .bytes) ⌝ }
+    ensures { λ a. ⌜ (a ≡ textTo (Ending·BadAt n) (now (out .entry)) .answer) × (now (out .exit) ≡ textTo (Ending·BadAt n) (now (out .entry)) .bytes) ⌝ }
 {
     let long = lay_bad(n, &mut [0u8; 1]);
     if out.len() < long {

@@ -20,12 +20,13 @@ use Rattle.list.proofs.Tests.{both-true, le-or, off}
 use Rattle.inherit.specs.declared.Mapping.{Mapping}
 use Rattle.inherit.specs.Asked.{MaybeList}
 use Rattle.inherit.specs.Compute.{ruleOk}
+use Rattle.tree.specs.Model.{shortIf, limitsOk}
 use Rattle.tree.specs.declared.Answer.{Answer}
 use Rattle.tree.specs.Held.{isDone, idIn, ownerOf, groupOf}
-use Rattle.tree.specs.Room.{limit, objects, own, roomFor, limitsOk, roomOf, settingsFor, emptyRoom}
-use Rattle.tree.specs.Formed.{Head, placed, formed}
+use Rattle.tree.specs.Room.{objectLimit, objects, ownData, roomFor, roomOf, settingsFor, emptyRoom}
+use Rattle.tree.specs.Formed.{Head, placedIn, formed}
 use Rattle.list.specs.Order.{need}
-use Rattle.tree.specs.Calls.{Outcome, refuse, onReading, readable, onObject, nobody, short, told, startOk, bytesIf, copied, dataOf}
+use Rattle.tree.specs.Calls.{Outcome, refuse, onReadingTo, readableTo, onObject, nobody, toldAs, startOk, listBytes, copied, dataOf}
 use Rattle.tree.specs.Faults.{objectFault, addFault, faultBy, faultOf}
 use Rattle.tree.proofs.Replay.{reads}
 use Rattle.tree.proofs.Tested.{head-says, formed-parts}
@@ -50,20 +51,20 @@ formed-head r e = head-says r (formed-parts r e .head-ok)
 
 -- ---- a list that is given
 
-on-reading : (d : Reading) (which : ℕ) (r : List ℕ) (rest : Outcome) → ListNumber d → (faultBy d .number ≡ 0 → onReading d which r rest ≡ rest)
-    × ((faultBy d .number ≡ 0 → ⊥) → onReading d which r rest ≡ refuse (faultBy d .number) which (faultBy d .offset) r)
-unfolding faultBy onReading
+on-reading : (d : Reading) (which : ℕ) (r : List ℕ) (rest : Outcome) → ListNumber d → (faultBy d .number ≡ 0 → onReadingTo d which r rest ≡ rest)
+    × ((faultBy d .number ≡ 0 → ⊥) → onReadingTo d which r rest ≡ refuse (faultBy d .number) which (faultBy d .offset) r)
+unfolding faultBy onReadingTo
 on-reading (Read l n) which r rest k = (λ h. refl, λ h. absurd (h refl))
 on-reading (Unread j at) which r rest k = (λ h. absurd (omega (arith, k .0)), λ h. refl)
 
-pub readable-good : (o : MaybeList) (which : ℕ) (r : List ℕ) (rest : Outcome) → faultOf o .number ≡ 0 → readable o which r rest ≡ rest
-unfolding faultOf readable
+pub readable-good : (o : MaybeList) (which : ℕ) (r : List ℕ) (rest : Outcome) → faultOf o .number ≡ 0 → readableTo o which r rest ≡ rest
+unfolding faultOf readableTo
 readable-good none which r rest h = refl
 readable-good (some s) which r rest h = on-reading (checkOf access s) which r rest (list-number access s) .0 h
 
 pub readable-bad : (o : MaybeList) (which : ℕ) (r : List ℕ) (rest : Outcome) → (faultOf o .number ≡ 0 → ⊥)
-    → readable o which r rest ≡ refuse (faultOf o .number) which (faultOf o .offset) r
-unfolding faultOf readable
+    → readableTo o which r rest ≡ refuse (faultOf o .number) which (faultOf o .offset) r
+unfolding faultOf readableTo
 readable-bad none which r rest h = absurd (h refl)
 readable-bad (some s) which r rest h = on-reading (checkOf access s) which r rest (list-number access s) .1 h
 
@@ -119,8 +120,8 @@ module _ (r : List ℕ) (i : ℕ) where
       let f = object-facts h in
       omega (arith, formed-head r (f .0))
 
-  pub own-long : objectFault r i ≡ 0 → length (own i r) ≡ 1184
-  unfolding own
+  pub own-long : objectFault r i ≡ 0 → length (ownData i r) ≡ 1184
+  unfolding ownData
   own-long h =
       let f = object-facts h in
       let d = formed-head r (f .0) in
@@ -131,9 +132,9 @@ module _ (r : List ℕ) (i : ℕ) where
 -- what the three tests say
 pub record Addable (r : List ℕ) (p : ℕ) : Type 0 where
   pub is-formed : formed r ≡ true
-  pub is-placed : placed nobody (λ j. own j r) (objects r) p ≡ true
-  pub below : objects r < limit r
-  pub limit-64 : limit r ≤ 64
+  pub is-placed : placedIn nobody (λ j. ownData j r) (objects r) p ≡ true
+  pub below : objects r < objectLimit r
+  pub limit-64 : objectLimit r ≤ 64
 
 abbrev byThree : Bool → Bool → Bool → ℕ
 byThree a b d = cond a (cond b (cond d 0 10) 9) 13
@@ -160,20 +161,20 @@ three-true false b d h = absurd (omega arith)
 
 module _ (r : List ℕ) (p : ℕ) where
   pub add-good : (x : List ℕ) (rest : Outcome) → addFault r p ≡ 0
-      → need (formed r) (refuse 13 0 0 x) (need (placed nobody (λ j. own j r) (objects r) p) (refuse 9 0 0 x) (need (ltb (objects r) (limit r)) (refuse 10 0 0 x) rest)) ≡ rest
+      → need (formed r) (refuse 13 0 0 x) (need (placedIn nobody (λ j. ownData j r) (objects r) p) (refuse 9 0 0 x) (need (ltb (objects r) (objectLimit r)) (refuse 10 0 0 x) rest)) ≡ rest
   unfolding addFault
-  add-good x rest h = three-good (formed r) (placed nobody (λ j. own j r) (objects r) p) (ltb (objects r) (limit r)) x rest h
+  add-good x rest h = three-good (formed r) (placedIn nobody (λ j. ownData j r) (objects r) p) (ltb (objects r) (objectLimit r)) x rest h
 
   pub add-bad : (x : List ℕ) (rest : Outcome) → (addFault r p ≡ 0 → ⊥)
-      → need (formed r) (refuse 13 0 0 x) (need (placed nobody (λ j. own j r) (objects r) p) (refuse 9 0 0 x) (need (ltb (objects r) (limit r)) (refuse 10 0 0 x) rest)) ≡ refuse (addFault r p) 0 0 x
+      → need (formed r) (refuse 13 0 0 x) (need (placedIn nobody (λ j. ownData j r) (objects r) p) (refuse 9 0 0 x) (need (ltb (objects r) (objectLimit r)) (refuse 10 0 0 x) rest)) ≡ refuse (addFault r p) 0 0 x
   unfolding addFault
-  add-bad x rest h = three-bad (formed r) (placed nobody (λ j. own j r) (objects r) p) (ltb (objects r) (limit r)) x rest h
+  add-bad x rest h = three-bad (formed r) (placedIn nobody (λ j. ownData j r) (objects r) p) (ltb (objects r) (objectLimit r)) x rest h
 
   pub add-facts : addFault r p ≡ 0 → Addable r p
   unfolding addFault
   add-facts h =
-      let q = three-true (formed r) (placed nobody (λ j. own j r) (objects r) p) (ltb (objects r) (limit r)) h in
-      record { is-formed = q .0; is-placed = q .1 .0; below = ltb-true (objects r) (limit r) (q .1 .1); limit-64 = formed-head r (q .0) .limit-64 }
+      let q = three-true (formed r) (placedIn nobody (λ j. ownData j r) (objects r) p) (ltb (objects r) (objectLimit r)) h in
+      record { is-formed = q .0; is-placed = q .1 .0; below = ltb-true (objects r) (objectLimit r) (q .1 .1); limit-64 = formed-head r (q .0) .limit-64 }
 
 -- ---- start
 
@@ -226,7 +227,7 @@ unfolding putAt
 put-front b d = rw zero-add
 
 -- an empty room, as the code lays it
-pub empty-laid : (n s rule : ℕ) (m : Mapping) (o : MaybeList) (r l₁ l₂ : List ℕ) → short o ≡ true → roomFor n s ≤ length r
+pub empty-laid : (n s rule : ℕ) (m : Mapping) (o : MaybeList) (r l₁ l₂ : List ℕ) → shortIf o ≡ true → roomFor n s ≤ length r
     → l₁ ≡ putAt 4 (settingsFor rule m o) (set (set (set (set r 0 n) 1 s) 2 0) 3 0)
     → l₂ ≡ putAt 1048 (replicate (n * 2211 + s * 1186) 0) l₁
     → l₂ ≡ front (emptyRoom n s rule m o) r
@@ -249,9 +250,9 @@ module _ (a : Answer) (b out : List ℕ) where
   unfolding copied
   copied-none h = need-no 8 out _ (lt-leb (length b) (length out) h)
 
-pub absent-copied : (out : List ℕ) → copied (told none) (bytesIf none) out ≡ record { answer = told none; bytes = out }
-unfolding bytesIf
-absent-copied out = copied-all (told none) [] out (omega arith)
+pub absent-copied : (out : List ℕ) → copied (toldAs none) (listBytes none) out ≡ record { answer = toldAs none; bytes = out }
+unfolding listBytes
+absent-copied out = copied-all (toldAs none) [] out (omega arith)
 
 -- own data but for the list: how long it is, and how the code lays it
 pub id-most : (f : List ℕ) → length (idIn f) ≤ 68

@@ -14,8 +14,8 @@ use borrow.Author.Tests.{eq-eqb, ne-eqb, lt-ltb, eqb-true, ltb-true}
 use Rattle.list.proofs.Tests.{both-true}
 use Rattle.list.proofs.Sids.{same-true, same-yes}
 use Rattle.tree.specs.General.{every}
-use Rattle.tree.specs.Held.{blockOk, alike, parentOf, kindOf, typeOf}
-use Rattle.tree.specs.Room.{tagOf, numberOf, savedIn}
+use Rattle.tree.specs.Held.{blockOk, alike, parentByteIn, kindByte, typeOf}
+use Rattle.tree.specs.Room.{stepTag, stepObject, stepData}
 use Rattle.tree.specs.Formed.{againOk, stepOk, standing, stepsOk}
 use Rattle.tree.proofs.Tested.{standing-most}
 
@@ -54,8 +54,8 @@ ahead u g (suc j) = g j
 -- ---- own data that agrees in what no change alters
 
 pub record Alike (a b : List ℕ) : Type 0 where
-  pub parent : parentOf a ≡ parentOf b
-  pub kind : kindOf a ≡ kindOf b
+  pub parent : parentByteIn a ≡ parentByteIn b
+  pub kind : kindByte a ≡ kindByte b
   pub type : typeOf a ≡ typeOf b
 
 pub alike-says : (a b : List ℕ) → alike a b ≡ true → Alike a b
@@ -92,23 +92,23 @@ alike-upd i x f a j = elim (ℕ-discrete j i) [
 
 -- it takes the last object off
 pub record Adds (c : ℕ) (u : List ℕ) : Type 0 where
-  pub tag : tagOf u ≡ 1
+  pub tag : stepTag u ≡ 1
   pub some : 0 < c
-  pub number : numberOf u ≡ c - 1
+  pub number : stepObject u ≡ c - 1
 
 -- it puts own data back
 pub record Again (f : ℕ → List ℕ) (c : ℕ) (u : List ℕ) : Type 0 where
-  pub tag : tagOf u ≡ 2
-  pub number : numberOf u < c
-  pub block : blockOk (savedIn u) ≡ true
-  pub same : Alike (savedIn u) (f (numberOf u))
+  pub tag : stepTag u ≡ 2
+  pub number : stepObject u < c
+  pub block : blockOk (stepData u) ≡ true
+  pub same : Alike (stepData u) (f (stepObject u))
 
 module _ (f : ℕ → List ℕ) (c : ℕ) (u : List ℕ) where
   pub step-facts : stepOk f c u ≡ true → Adds c u ⊎ Again f c u
   unfolding stepOk againOk
-  step-facts h = by (eqb (tagOf u) 1) refl h
+  step-facts h = by (eqb (stepTag u) 1) refl h
     where
-      by : (b : Bool) → eqb (tagOf u) 1 ≡ b → cond b (ltb 0 c && eqb (numberOf u) (c - 1)) (eqb (tagOf u) 2 && againOk f c u) ≡ true → Adds c u ⊎ Again f c u
+      by : (b : Bool) → eqb (stepTag u) 1 ≡ b → cond b (ltb 0 c && eqb (stepObject u) (c - 1)) (eqb (stepTag u) 2 && againOk f c u) ≡ true → Adds c u ⊎ Again f c u
       by true e k =
           let p = both-true _ _ k in
           inl (record { tag = eqb-true _ _ e; some = ltb-true _ _ (p .0); number = eqb-true _ _ (p .1) })
@@ -125,15 +125,15 @@ module _ (f : ℕ → List ℕ) (c : ℕ) (u : List ℕ) where
   pub step-again : Again f c u → stepOk f c u ≡ true
   unfolding stepOk againOk
   step-again a =
-      let t : eqb (tagOf u) 1 ≡ false = ne-eqb (tagOf u) 1 (λ e. omega arith) in
+      let t : eqb (stepTag u) 1 ≡ false = ne-eqb (stepTag u) 1 (λ e. omega arith) in
       rw (t, eq-eqb _ _ (a .tag), lt-ltb _ _ (a .number), a .block) (alike-said (a .same))
 
 -- how many stand before it
-pub standing-add : (c : ℕ) (u : List ℕ) → tagOf u ≡ 1 → standing c u ≡ c - 1
+pub standing-add : (c : ℕ) (u : List ℕ) → stepTag u ≡ 1 → standing c u ≡ c - 1
 standing-add c u e = rw (eq-eqb _ _ e)
 
-pub standing-again : (c : ℕ) (u : List ℕ) → tagOf u ≡ 2 → standing c u ≡ c
-standing-again c u e = let t : eqb (tagOf u) 1 ≡ false = ne-eqb (tagOf u) 1 (λ k. omega arith) in rw t
+pub standing-again : (c : ℕ) (u : List ℕ) → stepTag u ≡ 2 → standing c u ≡ c
+standing-again c u e = let t : eqb (stepTag u) 1 ≡ false = ne-eqb (stepTag u) 1 (λ k. omega arith) in rw t
 
 -- ---- the steps, each in its turn
 
@@ -143,7 +143,7 @@ step-same f f′ c u h e = by (step-facts f c u e)
   where
     by : Adds c u ⊎ Again f c u → stepOk f′ c u ≡ true
     by (inl a) = step-add f′ c u a
-    by (inr a) = step-again f′ c u (record { tag = a .tag; number = a .number; block = a .block; same = alike-trans (a .same) (h (numberOf u) (a .number)) })
+    by (inr a) = step-again f′ c u (record { tag = a .tag; number = a .number; block = a .block; same = alike-trans (a .same) (h (stepObject u) (a .number)) })
 
 pub steps-same : (f f′ g : ℕ → List ℕ) (m j c : ℕ) → ((i : ℕ) → i < c → Alike (f i) (f′ i)) → stepsOk f g m j c ≡ true → stepsOk f′ g m j c ≡ true
 unfolding stepsOk

@@ -9,44 +9,44 @@ use Rattle.list.specs.Bytes.{part, front}
 use Rattle.list.proofs.Places.{part-of-take}
 use Rattle.list.proofs.Writes.{length-front}
 use Rattle.tree.specs.General.{tab}
-use Rattle.tree.specs.Room.{limit, depth, ownAt, slotAt, stepsAt, roomFor, settings, own, slot, step, area}
+use Rattle.tree.specs.Room.{objectLimit, stepLimit, ownAt, slotAt, stepsAt, roomFor, settings, ownData, slot, step, area}
 use Rattle.tree.specs.Formed.{Head}
 use Rattle.tree.proofs.Tab.{tab-ext}
 
 -- a room that is its own area
 pub record Ready (w : List ℕ) : Type 0 where
   pub head : Head w
-  pub exact : length w ≡ roomFor (limit w) (depth w)
+  pub exact : length w ≡ roomFor (objectLimit w) (stepLimit w)
 
 pub tab-as : {A : Type 0} (n m : ℕ) (f g : ℕ → A) → n ≡ m → ((i : ℕ) → i < m → f i ≡ g i) → tab n f ≡ tab m g
 tab-as n m f g e h = ap (λ (k : ℕ). tab k f) e ∙ tab-ext m f g h
 
 module _ (r : List ℕ) where
-  pub area-byte : (i : ℕ) → i < roomFor (limit r) (depth r) → getD (area r) i 0 ≡ getD r i 0
-  area-byte i k = getD-take (roomFor (limit r) (depth r)) r i 0 k
+  pub area-byte : (i : ℕ) → i < roomFor (objectLimit r) (stepLimit r) → getD (area r) i 0 ≡ getD r i 0
+  area-byte i k = getD-take (roomFor (objectLimit r) (stepLimit r)) r i 0 k
 
-  pub area-part : (a k : ℕ) → a + k ≤ roomFor (limit r) (depth r) → part a k (area r) ≡ part a k r
-  area-part a k q = part-of-take a k (roomFor (limit r) (depth r)) r q
+  pub area-part : (a k : ℕ) → a + k ≤ roomFor (objectLimit r) (stepLimit r) → part a k (area r) ≡ part a k r
+  area-part a k q = part-of-take a k (roomFor (objectLimit r) (stepLimit r)) r q
 
   pub area-settings : settings (area r) ≡ settings r
   unfolding settings
   area-settings = area-part 4 1044 (omega arith)
 
-  pub area-own : (i : ℕ) → i < limit r → own i (area r) ≡ own i r
-  unfolding own
+  pub area-own : (i : ℕ) → i < objectLimit r → ownData i (area r) ≡ ownData i r
+  unfolding ownData
   area-own i k = area-part (ownAt i) 1184 (omega arith)
 
-  pub area-slot : (i : ℕ) → i < limit r → slot i (area r) ≡ slot i r
+  pub area-slot : (i : ℕ) → i < objectLimit r → slot i (area r) ≡ slot i r
   unfolding slot
   area-slot i k = area-part (slotAt i) 1027 (omega arith)
 
-  pub area-step : (j : ℕ) → j < depth r → step (limit r) j (area r) ≡ step (limit r) j r
+  pub area-step : (j : ℕ) → j < stepLimit r → step (objectLimit r) j (area r) ≡ step (objectLimit r) j r
   unfolding step
-  area-step j k = area-part (stepsAt (limit r) + j * 1186) 1186 (omega arith)
+  area-step j k = area-part (stepsAt (objectLimit r) + j * 1186) 1186 (omega arith)
 
 module _ (r : List ℕ) (h : Head r) where
-  pub area-length : length (area r) ≡ roomFor (limit r) (depth r)
-  area-length = length-take-le (roomFor (limit r) (depth r)) r (h .room-enough)
+  pub area-length : length (area r) ≡ roomFor (objectLimit r) (stepLimit r)
+  area-length = length-take-le (roomFor (objectLimit r) (stepLimit r)) r (h .room-enough)
 
   pub area-ready : Ready (area r)
   area-ready =
@@ -69,15 +69,15 @@ module _ (r : List ℕ) (h : Head r) where
       }
 
   -- w written over the room's area
-  module _ (w : List ℕ) (l : length w ≡ roomFor (limit r) (depth r)) where
-    pub front-byte : (i : ℕ) → i < roomFor (limit r) (depth r) → getD (front w r) i 0 ≡ getD w i 0
+  module _ (w : List ℕ) (l : length w ≡ roomFor (objectLimit r) (stepLimit r)) where
+    pub front-byte : (i : ℕ) → i < roomFor (objectLimit r) (stepLimit r) → getD (front w r) i 0 ≡ getD w i 0
     front-byte i k = List·getD-append w (drop (length w) r) 0 i (omega arith)
 
     pub front-length : length (front w r) ≡ length r
     front-length = length-front w r (omega arith)
 
-    pub area-front : limit w ≡ limit r → depth w ≡ depth r → area (front w r) ≡ w
+    pub area-front : objectLimit w ≡ objectLimit r → stepLimit w ≡ stepLimit r → area (front w r) ≡ w
     area-front e₀ e₁ =
-        let f₀ : limit (front w r) ≡ limit r = front-byte 0 (omega arith) ∙ e₀ in
-        let f₁ : depth (front w r) ≡ depth r = front-byte 1 (omega arith) ∙ e₁ in
-        rw (f₀, f₁) (take-at w (drop (length w) r) (roomFor (limit r) (depth r)) l)
+        let f₀ : objectLimit (front w r) ≡ objectLimit r = front-byte 0 (omega arith) ∙ e₀ in
+        let f₁ : stepLimit (front w r) ≡ stepLimit r = front-byte 1 (omega arith) ∙ e₁ in
+        rw (f₀, f₁) (take-at w (drop (length w) r) (roomFor (objectLimit r) (stepLimit r)) l)

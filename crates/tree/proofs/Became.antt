@@ -15,8 +15,8 @@ use Rattle.list.specs.Bytes.{part, putAt}
 use Rattle.list.proofs.Places.{split, length-part, length-put, part-put-before, part-put-after, part-put-on, put-whole, byte-same}
 use Rattle.tree.specs.General.{tab}
 use Rattle.tree.specs.Held.{held, slotOk}
-use Rattle.tree.specs.Room.{limit, depth, objects, kept, ownAt, stepsAt, settings, own, slot, step, numberOf, savedIn}
-use Rattle.tree.specs.Calls.{pushed, popped, settled, changed, latest, left, undone}
+use Rattle.tree.specs.Room.{objectLimit, stepLimit, objects, keptSteps, ownAt, stepsAt, settings, ownData, slot, step, stepObject, stepData}
+use Rattle.tree.specs.Calls.{pushed, popped, reworkedWith, changed, latest, standingAfter, stepTakenBack}
 use Rattle.tree.proofs.Tab.{tab-ext}
 use Rattle.tree.proofs.Paths.{inOrder}
 use Rattle.tree.proofs.Applied.{upd, ahead}
@@ -27,13 +27,13 @@ use Rattle.tree.proofs.Reworks.{Worked, Linked, linked, settings-stay, 
 -- w₃ is w with n objects whose own data is f, their lists worked out from it, and the k steps g
 pub record Became (w w₃ : List ℕ) (n : ℕ) (f : ℕ → List ℕ) (k : ℕ) (g : ℕ → List ℕ) : Type 0 where
   pub size : length w₃ ≡ length w
-  pub limits : limit w₃ ≡ limit w
-  pub depths : depth w₃ ≡ depth w
+  pub limits : objectLimit w₃ ≡ objectLimit w
+  pub depths : stepLimit w₃ ≡ stepLimit w
   pub count : objects w₃ ≡ n
-  pub steps : kept w₃ ≡ k
+  pub steps : keptSteps w₃ ≡ k
   pub same-settings : settings w₃ ≡ settings w
-  pub owns : (j : ℕ) → j < n → own j w₃ ≡ f j
-  pub stepped : (j : ℕ) → j < k → step (limit w) j w₃ ≡ g j
+  pub owns : (j : ℕ) → j < n → ownData j w₃ ≡ f j
+  pub stepped : (j : ℕ) → j < k → step (objectLimit w) j w₃ ≡ g j
   pub slots : (j : ℕ) → j < n → slotOk (slot j w₃) ≡ true
   pub lists : inOrder (settings w) (tab n f) n ≡ some (tab n (λ j. held (slot j w₃)))
 
@@ -45,8 +45,8 @@ written i at b n w = set (putAt (ownAt i + at) b w) 2 n
 -- what is to be known of computed lists
 -- w₁ is w but for the steps: own data of object i is written in it, and n objects stand
 module _
-    (w w₁ : List ℕ) (ready : Ready w) (same : (a k : ℕ) → Aside (limit w) a k → part a k w₁ ≡ part a k w) (size : length w₁ ≡ length w)
-    (i at : ℕ) (b : List ℕ) (n : ℕ) (hi : i < limit w) (hn : n ≤ limit w) (fits : at + length b ≤ 1184) where
+    (w w₁ : List ℕ) (ready : Ready w) (same : (a k : ℕ) → Aside (objectLimit w) a k → part a k w₁ ≡ part a k w) (size : length w₁ ≡ length w)
+    (i at : ℕ) (b : List ℕ) (n : ℕ) (hi : i < objectLimit w) (hn : n ≤ objectLimit w) (fits : at + length b ≤ 1184) where
   put-size : length (putAt (ownAt i + at) b w₁) ≡ length w
   put-size = length-put (ownAt i + at) b w₁ (omega arith) ∙ size
 
@@ -69,28 +69,28 @@ module _
   unfolding settings
   written-settings = written-part 4 1044 (inr (omega arith)) (inl (omega arith)) ∙ same 4 1044 (inr (omega arith), omega arith)
 
-  written-step : (j : ℕ) → step (limit w) j (written i at b n w₁) ≡ step (limit w) j w₁
+  written-step : (j : ℕ) → step (objectLimit w) j (written i at b n w₁) ≡ step (objectLimit w) j w₁
   unfolding step
-  written-step j = written-part (stepsAt (limit w) + j * 1186) 1186 (inr (omega arith)) (inr (omega arith))
+  written-step j = written-part (stepsAt (objectLimit w) + j * 1186) 1186 (inr (omega arith)) (inr (omega arith))
 
-  own-aside : (j : ℕ) → j < limit w → own j w₁ ≡ own j w
-  unfolding own
+  own-aside : (j : ℕ) → j < objectLimit w → ownData j w₁ ≡ ownData j w
+  unfolding ownData
   own-aside j h = same (ownAt j) 1184 (inr (omega arith), omega arith)
 
-  written-here : own i (written i at b n w₁) ≡ putAt at b (own i w)
-  unfolding own
+  written-here : ownData i (written i at b n w₁) ≡ putAt at b (ownData i w)
+  unfolding ownData
   written-here =
       part-set (ownAt i) 1184 2 n (putAt (ownAt i + at) b w₁) (inr (omega arith)) (omega (arith, put-size))
       ∙ part-put-on (ownAt i) 1184 at b w₁ fits (omega arith)
       ∙ ap (putAt at b) (own-aside i hi)
 
-  written-there : (j : ℕ) → j < limit w → (j ≡ i → ⊥) → own j (written i at b n w₁) ≡ own j w
-  unfolding own
+  written-there : (j : ℕ) → j < objectLimit w → (j ≡ i → ⊥) → ownData j (written i at b n w₁) ≡ ownData j w
+  unfolding ownData
   written-there j h q =
       written-part (ownAt j) 1184 (inr (omega arith)) (split j i (λ m. inl (omega arith)) (λ m. inr (omega arith)))
       ∙ own-aside j h
 
-  written-own : (j : ℕ) → j < n → own j (written i at b n w₁) ≡ upd i (putAt at b (own i w)) (λ m. own m w) j
+  written-own : (j : ℕ) → j < n → ownData j (written i at b n w₁) ≡ upd i (putAt at b (ownData i w)) (λ m. ownData m w) j
   unfolding upd
   written-own j h =
       elim (ℕ-discrete j i) [
@@ -98,21 +98,21 @@ module _
         | no q ↦ rw (ne-eqb j i q) (written-there j (omega arith) q)
       ]
 
-  written-order : inOrder (settings (written i at b n w₁)) (tab n (λ j. own j (written i at b n w₁))) n
-      ≡ inOrder (settings w) (tab n (upd i (putAt at b (own i w)) (λ m. own m w))) n
-  written-order = rw (written-settings, tab-ext n (λ j. own j (written i at b n w₁)) (upd i (putAt at b (own i w)) (λ m. own m w)) written-own)
+  written-order : inOrder (settings (written i at b n w₁)) (tab n (λ j. ownData j (written i at b n w₁))) n
+      ≡ inOrder (settings w) (tab n (upd i (putAt at b (ownData i w)) (λ m. ownData m w))) n
+  written-order = rw (written-settings, tab-ext n (λ j. ownData j (written i at b n w₁)) (upd i (putAt at b (ownData i w)) (λ m. ownData m w)) written-own)
 
   -- a byte of the head, but for the number of objects
   head-byte : (w₃ : List ℕ) → Worked n (written i at b n w₁) w₃ → (c : ℕ) → (c + 1 ≤ 2) ⊎ (2 < c) → c < 4 → getD w₃ c 0 ≡ getD w₁ c 0
   head-byte w₃ k c q h =
       byte-same c w₃ w₁ (k .rest c 1 (λ j m. inl (omega arith)) ∙ written-part c 1 q (inl (omega arith)))
 
-  step-stays : (w₃ : List ℕ) → Worked n (written i at b n w₁) w₃ → (j : ℕ) → step (limit w) j w₃ ≡ step (limit w) j (written i at b n w₁)
+  step-stays : (w₃ : List ℕ) → Worked n (written i at b n w₁) w₃ → (j : ℕ) → step (objectLimit w) j w₃ ≡ step (objectLimit w) j (written i at b n w₁)
   unfolding step
-  step-stays w₃ k j = k .rest (stepsAt (limit w) + j * 1186) 1186 (λ c h. inr (omega arith))
+  step-stays w₃ k j = k .rest (stepsAt (objectLimit w) + j * 1186) 1186 (λ c h. inr (omega arith))
 
-  worked-became : (m : ℕ) (g : ℕ → List ℕ) → kept w₁ ≡ m → ((j : ℕ) → j < m → step (limit w) j w₁ ≡ g j)
-      → (w₃ : List ℕ) → Worked n (written i at b n w₁) w₃ → Became w w₃ n (upd i (putAt at b (own i w)) (λ j. own j w)) m g
+  worked-became : (m : ℕ) (g : ℕ → List ℕ) → keptSteps w₁ ≡ m → ((j : ℕ) → j < m → step (objectLimit w) j w₁ ≡ g j)
+      → (w₃ : List ℕ) → Worked n (written i at b n w₁) w₃ → Became w w₃ n (upd i (putAt at b (ownData i w)) (λ j. ownData j w)) m g
   worked-became m g e s w₃ k = record {
     size = k .size ∙ written-size;
     limits = head-byte w₃ k 0 (inl (omega arith)) (omega arith) ∙ byte-same 0 w₁ w (same 0 1 (inl (omega arith), omega arith));
@@ -126,74 +126,74 @@ module _
     lists = sym written-order ∙ k .lists;
   }
 
-  settled-as : (o : Option (List ℕ)) → settled (ownAt i + at) b n w₁ ≡ o → Linked n (written i at b n w₁) o
-  unfolding settled
+  settled-as : (o : Option (List ℕ)) → reworkedWith (ownAt i + at) b n w₁ ≡ o → Linked n (written i at b n w₁) o
+  unfolding reworkedWith
   settled-as o e =
       subst (λ (x : Option (List ℕ)). Linked n (written i at b n w₁) x) e
       (linked n (written i at b n w₁) (omega (arith, written-size)))
 
-  settled-became : (m : ℕ) (g : ℕ → List ℕ) → kept w₁ ≡ m → ((j : ℕ) → j < m → step (limit w) j w₁ ≡ g j)
-      → (w₃ : List ℕ) → settled (ownAt i + at) b n w₁ ≡ some w₃ → Became w w₃ n (upd i (putAt at b (own i w)) (λ j. own j w)) m g
+  settled-became : (m : ℕ) (g : ℕ → List ℕ) → keptSteps w₁ ≡ m → ((j : ℕ) → j < m → step (objectLimit w) j w₁ ≡ g j)
+      → (w₃ : List ℕ) → reworkedWith (ownAt i + at) b n w₁ ≡ some w₃ → Became w w₃ n (upd i (putAt at b (ownData i w)) (λ j. ownData j w)) m g
   settled-became m g e s w₃ q = worked-became m g e s w₃ (settled-as (some w₃) q)
 
-  settled-refused : settled (ownAt i + at) b n w₁ ≡ none → inOrder (settings w) (tab n (upd i (putAt at b (own i w)) (λ j. own j w))) n ≡ none
+  settled-refused : reworkedWith (ownAt i + at) b n w₁ ≡ none → inOrder (settings w) (tab n (upd i (putAt at b (ownData i w)) (λ j. ownData j w))) n ≡ none
   settled-refused q = sym written-order ∙ settled-as none q
 
 -- ---- a change
 
-module _ (w : List ℕ) (ready : Ready w) (tag i at : ℕ) (b : List ℕ) (n : ℕ) (hi : i < limit w) (hn : n ≤ limit w) (fits : at + length b ≤ 1184) where
-  keeps : Pushed (tag ∷ i ∷ own i w) w (pushed (tag ∷ i ∷ own i w) w)
-  unfolding own
-  keeps = is-pushed (tag ∷ i ∷ own i w) w ready (let l = length-part (ownAt i) 1184 w (omega arith) in omega arith)
+module _ (w : List ℕ) (ready : Ready w) (tag i at : ℕ) (b : List ℕ) (n : ℕ) (hi : i < objectLimit w) (hn : n ≤ objectLimit w) (fits : at + length b ≤ 1184) where
+  keeps : Pushed (tag ∷ i ∷ ownData i w) w (pushed (tag ∷ i ∷ ownData i w) w)
+  unfolding ownData
+  keeps = is-pushed (tag ∷ i ∷ ownData i w) w ready (let l = length-part (ownAt i) 1184 w (omega arith) in omega arith)
 
-  keeps-steps : (j : ℕ) → j < min (depth w) (suc (kept w))
-      → step (limit w) j (pushed (tag ∷ i ∷ own i w) w) ≡ ahead (tag ∷ i ∷ own i w) (λ m. step (limit w) m w) j
+  keeps-steps : (j : ℕ) → j < min (stepLimit w) (suc (keptSteps w))
+      → step (objectLimit w) j (pushed (tag ∷ i ∷ ownData i w) w) ≡ ahead (tag ∷ i ∷ ownData i w) (λ m. step (objectLimit w) m w) j
   unfolding ahead
   keeps-steps zero h = keeps .first (omega arith)
   keeps-steps (suc j) h = keeps .later j (omega arith)
 
   pub change-became : (w₃ : List ℕ) → changed tag i at b n w ≡ some w₃
-      → Became w w₃ n (upd i (putAt at b (own i w)) (λ j. own j w)) (min (depth w) (suc (kept w))) (ahead (tag ∷ i ∷ own i w) (λ j. step (limit w) j w))
+      → Became w w₃ n (upd i (putAt at b (ownData i w)) (λ j. ownData j w)) (min (stepLimit w) (suc (keptSteps w))) (ahead (tag ∷ i ∷ ownData i w) (λ j. step (objectLimit w) j w))
   unfolding changed
   change-became = settled-became w _ ready (keeps .same) (keeps .size) i at b n hi hn fits _ _ (keeps .count) keeps-steps
 
-  pub change-refused : changed tag i at b n w ≡ none → inOrder (settings w) (tab n (upd i (putAt at b (own i w)) (λ j. own j w))) n ≡ none
+  pub change-refused : changed tag i at b n w ≡ none → inOrder (settings w) (tab n (upd i (putAt at b (ownData i w)) (λ j. ownData j w))) n ≡ none
   unfolding changed
   change-refused = settled-refused w _ ready (keeps .same) (keeps .size) i at b n hi hn fits
 
 -- ---- an undo
 
-module _ (w : List ℕ) (ready : Ready w) (p : 0 < kept w) (hi : numberOf (latest w) < limit w) (hn : left w ≤ limit w) where
+module _ (w : List ℕ) (ready : Ready w) (p : 0 < keptSteps w) (hi : stepObject (latest w) < objectLimit w) (hn : standingAfter w ≤ objectLimit w) where
   takes : Popped w (popped w)
   takes = is-popped w ready p
 
-  saved-length : length (savedIn (latest w)) ≡ 1184
+  saved-length : length (stepData (latest w)) ≡ 1184
   unfolding step
   saved-length =
-      let l = length-part (stepsAt (limit w) + 0 * 1186) 1186 w (omega arith) in
+      let l = length-part (stepsAt (objectLimit w) + 0 * 1186) 1186 w (omega arith) in
       length-part 2 1184 (latest w) (omega arith)
 
   -- all of own data is put back
-  saved-whole : putAt 0 (savedIn (latest w)) (own (numberOf (latest w)) w) ≡ savedIn (latest w)
-  unfolding own
+  saved-whole : putAt 0 (stepData (latest w)) (ownData (stepObject (latest w)) w) ≡ stepData (latest w)
+  unfolding ownData
   saved-whole =
-      let l = length-part (ownAt (numberOf (latest w))) 1184 w (omega arith) in
-      put-whole (savedIn (latest w)) (own (numberOf (latest w)) w) (saved-length ∙ sym l)
+      let l = length-part (ownAt (stepObject (latest w))) 1184 w (omega arith) in
+      put-whole (stepData (latest w)) (ownData (stepObject (latest w)) w) (saved-length ∙ sym l)
 
-  undone-as : undone w ≡ settled (ownAt (numberOf (latest w)) + 0) (savedIn (latest w)) (left w) (popped w)
-  unfolding undone
-  undone-as = rw (add-zero (ownAt (numberOf (latest w))))
+  undone-as : stepTakenBack w ≡ reworkedWith (ownAt (stepObject (latest w)) + 0) (stepData (latest w)) (standingAfter w) (popped w)
+  unfolding stepTakenBack
+  undone-as = rw (add-zero (ownAt (stepObject (latest w))))
 
-  pub undo-became : (w₃ : List ℕ) → undone w ≡ some w₃
-      → Became w w₃ (left w) (upd (numberOf (latest w)) (savedIn (latest w)) (λ j. own j w)) (kept w - 1) (λ j. step (limit w) (suc j) w)
+  pub undo-became : (w₃ : List ℕ) → stepTakenBack w ≡ some w₃
+      → Became w w₃ (standingAfter w) (upd (stepObject (latest w)) (stepData (latest w)) (λ j. ownData j w)) (keptSteps w - 1) (λ j. step (objectLimit w) (suc j) w)
   undo-became w₃ e =
-      subst (λ (x : List ℕ). Became w w₃ (left w) (upd (numberOf (latest w)) x (λ j. own j w)) (kept w - 1) (λ j. step (limit w) (suc j) w)) saved-whole
-      (settled-became w _ ready (takes .same) (takes .size) (numberOf (latest w)) 0 (savedIn (latest w)) (left w) hi hn (omega (arith, saved-length)) _ _
+      subst (λ (x : List ℕ). Became w w₃ (standingAfter w) (upd (stepObject (latest w)) x (λ j. ownData j w)) (keptSteps w - 1) (λ j. step (objectLimit w) (suc j) w)) saved-whole
+      (settled-became w _ ready (takes .same) (takes .size) (stepObject (latest w)) 0 (stepData (latest w)) (standingAfter w) hi hn (omega (arith, saved-length)) _ _
       (takes .count)
       (λ j h. takes .later j (omega arith)) w₃ (sym undone-as ∙ e))
 
-  pub undo-refused : undone w ≡ none → inOrder (settings w) (tab (left w) (upd (numberOf (latest w)) (savedIn (latest w)) (λ j. own j w))) (left w) ≡ none
+  pub undo-refused : stepTakenBack w ≡ none → inOrder (settings w) (tab (standingAfter w) (upd (stepObject (latest w)) (stepData (latest w)) (λ j. ownData j w))) (standingAfter w) ≡ none
   undo-refused e =
-      subst (λ (x : List ℕ). inOrder (settings w) (tab (left w) (upd (numberOf (latest w)) x (λ j. own j w))) (left w) ≡ none) saved-whole
-      (settled-refused w _ ready (takes .same) (takes .size) (numberOf (latest w)) 0 (savedIn (latest w)) (left w) hi hn (omega (arith, saved-length))
+      subst (λ (x : List ℕ). inOrder (settings w) (tab (standingAfter w) (upd (stepObject (latest w)) x (λ j. ownData j w))) (standingAfter w) ≡ none) saved-whole
+      (settled-refused w _ ready (takes .same) (takes .size) (stepObject (latest w)) 0 (stepData (latest w)) (standingAfter w) hi hn (omega (arith, saved-length))
       (sym undone-as ∙ e))

@@ -12,9 +12,9 @@ use Rattle.list.specs.Bytes.{part, guidAt}
 use Rattle.list.proofs.Tests.{both-true}
 use Rattle.inherit.specs.Asked.{MaybeList}
 use Rattle.inherit.specs.Compute.{ordinary}
-use Rattle.tree.specs.Held.{held, slotFor, slotOk, idIn, idFor, idOk, parentOf, kindOf, markOf, typeOf, ownerOf, groupOf, ownSlot, ownList}
+use Rattle.tree.specs.Model.{shortIf}
+use Rattle.tree.specs.Held.{held, slotFor, slotOk, idIn, idFor, idOk, parentByteIn, kindByte, markByte, typeOf, ownerOf, groupOf, ownSlot, ownList}
 use Rattle.tree.specs.Held.{blockOk, New, yes, blockFor}
-use Rattle.tree.specs.Calls.{short}
 use Rattle.tree.proofs.Replay.{reads}
 use Rattle.tree.proofs.Lays.{length-slot}
 use Rattle.tree.proofs.Slots.{held-slot, slot-good, id-length, id-held, id-good}
@@ -42,9 +42,9 @@ type-part b h = rw (le-leb 19 (length b) h)
 -- b's seven fields as they lie in it
 pub record Laid (b : List ℕ) (p k m : ℕ) (t o g s : List ℕ) : Type 0 where
   pub long : length b ≡ 1184
-  pub parent : parentOf b ≡ p
-  pub kind : kindOf b ≡ k
-  pub mark : markOf b ≡ m
+  pub parent : parentByteIn b ≡ p
+  pub kind : kindByte b ≡ k
+  pub mark : markByte b ≡ m
   pub type : typeOf b ≡ t
   pub owner : part 19 69 b ≡ o
   pub group : part 88 69 b ≡ g
@@ -53,9 +53,9 @@ pub record Laid (b : List ℕ) (p k m : ℕ) (t o g s : List ℕ) : Type 0 where
 -- and what they say
 pub record Shows (b : List ℕ) (p k m : ℕ) (t o g : List ℕ) (l : MaybeList) : Type 0 where
   pub long : length b ≡ 1184
-  pub parent : parentOf b ≡ p
-  pub kind : kindOf b ≡ k
-  pub mark : markOf b ≡ m
+  pub parent : parentByteIn b ≡ p
+  pub kind : kindByte b ≡ k
+  pub mark : markByte b ≡ m
   pub type : typeOf b ≡ t
   pub owner : ownerOf b ≡ o
   pub group : groupOf b ≡ g
@@ -63,8 +63,8 @@ pub record Shows (b : List ℕ) (p k m : ℕ) (t o g : List ℕ) (l : MaybeList)
 
 -- good by itself, test by test
 pub record Sound (b : List ℕ) : Type 0 where
-  pub kind : leb (kindOf b) 1 ≡ true
-  pub mark : leb (markOf b) 1 ≡ true
+  pub kind : leb (kindByte b) 1 ≡ true
+  pub mark : leb (markByte b) 1 ≡ true
   pub owner : idOk (part 19 69 b) ≡ true
   pub group : idOk (part 88 69 b) ≡ true
   pub slot : slotOk (ownSlot b) ≡ true
@@ -110,7 +110,7 @@ length-guid s at = by (leb (at + 16) (length s)) refl
     by true e = length-take-le 16 (drop at s) (rw length-drop (omega (arith, leb-true (at + 16) (length s) e)))
     by false e = length-replicate {A = ℕ} 16 0
 
-module _ (new : New) (o : ordinary (new .owner) ≡ true) (g : ordinary (new .group) ≡ true) (s : short (new .list) ≡ true) where
+module _ (new : New) (o : ordinary (new .owner) ≡ true) (g : ordinary (new .group) ≡ true) (s : shortIf (new .list) ≡ true) where
   new-laid : Laid (blockFor new) (min 255 (new .parent)) (yes (new .container)) (yes (new .mark)) (guidAt (new .type) 0) (idFor (new .owner))
       (idFor (new .group)) (slotFor (new .list))
   unfolding blockFor

@@ -13,14 +13,15 @@ use Rattle.list.proofs.Places.{part-most, put-whole}
 use Rattle.list.proofs.Writes.{put-all}
 use Rattle.inherit.specs.Asked.{MaybeList}
 use Rattle.inherit.specs.Compute.{ordinary}
+use Rattle.tree.specs.Model.{shortIf}
 use Rattle.tree.specs.declared.Answer.{Answer}
 use Rattle.tree.specs.declared.Answer.the-variants.{Done, Refused}
 use Rattle.tree.specs.declared.tests.Fault.{Fault}
 use Rattle.tree.specs.Held.{New, held, blockFor}
-use Rattle.tree.specs.Room.{limit, objects, kept, ownAt, own, slot, step, numberOf, area}
+use Rattle.tree.specs.Room.{objectLimit, objects, keptSteps, ownAt, ownData, slot, step, stepObject, area}
 use Rattle.tree.specs.Formed.{Head, standing, formed}
 use Rattle.list.specs.Order.{need}
-use Rattle.tree.specs.Calls.{Outcome, refuse, readable, short, told, popped, settled, changed, latest, undone, finish, finishUndo, Edit}
+use Rattle.tree.specs.Calls.{Outcome, refuse, readableTo, toldAs, popped, reworkedWith, changed, latest, stepTakenBack, changeEnds, undoEnds, Edit}
 use Rattle.tree.specs.Calls.{list, mark, owners, editAt, editBytes, tested, addTo, alterTo, undoTo}
 use Rattle.tree.specs.Faults.{objectFault, addFault, faultOf}
 use Rattle.tree.proofs.Tested.{head-says, Forms, formed-parts, standing-most}
@@ -32,56 +33,56 @@ use Rattle.tree.proofs.Areas.{area-byte, area-step}
 -- ---- the end of a change, and of an undo
 
 pub finish-some : (i : ℕ) (r w r₁ s : List ℕ) (o : Option (List ℕ)) (a : Answer) → length w ≤ length r → o ≡ some w → r₁ ≡ putOn w r → s ≡ slot i w
-    → a ≡ told (held s)
-    → (a ≡ finish i r o .answer) × (r₁ ≡ finish i r o .bytes)
-unfolding finish
-finish-some i r w r₁ s o a l e f q t = rw e (t ∙ ap (λ (x : List ℕ). told (held x)) q, f ∙ put-all w r l)
+    → a ≡ toldAs (held s)
+    → (a ≡ changeEnds i r o .answer) × (r₁ ≡ changeEnds i r o .bytes)
+unfolding changeEnds
+finish-some i r w r₁ s o a l e f q t = rw e (t ∙ ap (λ (x : List ℕ). toldAs (held x)) q, f ∙ put-all w r l)
 
-pub finish-none : (i : ℕ) (r : List ℕ) (o : Option (List ℕ)) → o ≡ none → (Refused 8 0 0 ≡ finish i r o .answer) × (r ≡ finish i r o .bytes)
-unfolding finish
+pub finish-none : (i : ℕ) (r : List ℕ) (o : Option (List ℕ)) → o ≡ none → (Refused 8 0 0 ≡ changeEnds i r o .answer) × (r ≡ changeEnds i r o .bytes)
+unfolding changeEnds
 finish-none i r o e = rw e (refl, refl)
 
 pub undo-some : (r w r₁ : List ℕ) (o : Option (List ℕ)) → length w ≤ length r → o ≡ some w → r₁ ≡ putOn w r
-    → (Done 0 false 0 ≡ finishUndo r o .answer) × (r₁ ≡ finishUndo r o .bytes)
-unfolding finishUndo
+    → (Done 0 false 0 ≡ undoEnds r o .answer) × (r₁ ≡ undoEnds r o .bytes)
+unfolding undoEnds
 undo-some r w r₁ o l e f = rw e (refl, f ∙ put-all w r l)
 
-pub undo-none : (r : List ℕ) (o : Option (List ℕ)) → o ≡ none → (Refused 8 0 0 ≡ finishUndo r o .answer) × (r ≡ finishUndo r o .bytes)
-unfolding finishUndo
+pub undo-none : (r : List ℕ) (o : Option (List ℕ)) → o ≡ none → (Refused 8 0 0 ≡ undoEnds r o .answer) × (r ≡ undoEnds r o .bytes)
+unfolding undoEnds
 undo-none r o e = rw e (refl, refl)
 
 -- ---- the latest step
 
 -- it lies in the area
-latest-area : (r : List ℕ) → Head r → 0 < kept r → latest (area r) ≡ latest r
+latest-area : (r : List ℕ) → Head r → 0 < keptSteps r → latest (area r) ≡ latest r
 latest-area r h k = rw (area-byte r 0 (omega arith)) (area-step r 0 (omega arith))
 
 -- as the code finds it: the object's number, what it puts back, and how many objects stand then
-module _ (r : List ℕ) (h : Head r) (n c j m : ℕ) (u b : List ℕ) (en : n ≡ limit r) (eu : u ≡ step n 0 r) (ej : j ≡ numberOf u) (eb : b ≡ part 2 1184 u)
+module _ (r : List ℕ) (h : Head r) (n c j m : ℕ) (u b : List ℕ) (en : n ≡ objectLimit r) (eu : u ≡ step n 0 r) (ej : j ≡ stepObject u) (eb : b ≡ part 2 1184 u)
     (ec : c ≡ objects r)
     (em : m ≡ standing c u) where
   latest-is : latest r ≡ u
   latest-is = rw (← en) (sym eu)
 
-  pub undo-fits : numberOf (latest r) < limit r → (m ≤ limit r) × ((j < limit r) × (length b ≤ 1184))
+  pub undo-fits : stepObject (latest r) < objectLimit r → (m ≤ objectLimit r) × ((j < objectLimit r) × (length b ≤ 1184))
   undo-fits k =
-      let q : j < limit r = rw (ej, ← latest-is) k in
+      let q : j < objectLimit r = rw (ej, ← latest-is) k in
       let p : m ≤ c = rw em (standing-most c u) in
       let l : length b ≤ 1184 = rw eb (part-most 2 1184 u) in
       (omega arith, (q, l))
 
-  pub undone-is : (w : List ℕ) → 0 < kept r → w ≡ popped (area r) → settled (ownAt j) b m w ≡ undone (area r)
-  unfolding undone
+  pub undone-is : (w : List ℕ) → 0 < keptSteps r → w ≡ popped (area r) → reworkedWith (ownAt j) b m w ≡ stepTakenBack (area r)
+  unfolding stepTakenBack
   undone-is w k e =
       let z : latest (area r) ≡ u = latest-area r h k ∙ latest-is in
       let o : objects (area r) ≡ c = area-byte r 2 (omega arith) ∙ sym ec in
       rw (z, o, e, ej, eb, em)
 
 -- in a well-formed room it is of an object within the limit
-pub latest-within : (r : List ℕ) → formed r ≡ true → 0 < kept r → numberOf (latest r) < limit r
+pub latest-within : (r : List ℕ) → formed r ≡ true → 0 < keptSteps r → stepObject (latest r) < objectLimit r
 latest-within r f k =
-    by (step-facts (λ i. own i r) (objects r) (latest r)
-    (steps-off (λ i. own i r) (λ j. step (limit r) j r) (kept r - 1) (objects r) (rw (← e) (p .steps-ok)) .0))
+    by (step-facts (λ i. ownData i r) (objects r) (latest r)
+    (steps-off (λ i. ownData i r) (λ j. step (objectLimit r) j r) (keptSteps r - 1) (objects r) (rw (← e) (p .steps-ok)) .0))
   where
     p : Forms r
     p = formed-parts r f
@@ -89,10 +90,10 @@ latest-within r f k =
     h : Head r
     h = head-says r (p .head-ok)
 
-    e : kept r ≡ suc (kept r - 1)
+    e : keptSteps r ≡ suc (keptSteps r - 1)
     e = omega arith
 
-    by : Adds (objects r) (latest r) ⊎ Again (λ i. own i r) (objects r) (latest r) → numberOf (latest r) < limit r
+    by : Adds (objects r) (latest r) ⊎ Again (λ i. ownData i r) (objects r) (latest r) → stepObject (latest r) < objectLimit r
     by (inl a) = omega (arith, a .number, a .some, h .within)
     by (inr a) = omega (arith, a .number, h .within)
 
@@ -125,11 +126,11 @@ module _ (o : MaybeList) (r : List ℕ) (f : Fault) (e : f ≡ faultOf o) where
   unfolding tested
   list-fails h rest = rw e (readable-bad o 2 r _ (rw e at h))
 
-  pub long-fails : f .number ≡ 0 → short o ≡ false → (rest : Outcome) → tested (list o) r rest ≡ refuse 8 0 0 r
+  pub long-fails : f .number ≡ 0 → shortIf o ≡ false → (rest : Outcome) → tested (list o) r rest ≡ refuse 8 0 0 r
   unfolding tested
   long-fails h k rest = readable-good o 2 r _ (rw e at h) ∙ need-no 8 r rest k
 
-  pub list-passes : f .number ≡ 0 → short o ≡ true → (rest : Outcome) → tested (list o) r rest ≡ rest
+  pub list-passes : f .number ≡ 0 → shortIf o ≡ true → (rest : Outcome) → tested (list o) r rest ≡ rest
   unfolding tested
   list-passes h k rest = readable-good o 2 r _ (rw e at h) ∙ need-yes 8 r rest k
 
@@ -141,7 +142,7 @@ module _ (i : ℕ) (e : Edit) (r : List ℕ) (k : ℕ) (q : k ≡ objectFault r 
   alter-no a n f = settle (on-object-bad r i r _ (λ z. n (q ∙ z))) (f ∙ ap (λ (j : ℕ). Refused j 0 0) q) refl
 
   module _ (z : k ≡ 0) where
-    alter-goes : alterTo i e r ≡ tested e r (finish i r (changed 2 i (editAt e) (editBytes e) (objects r) (area r)))
+    alter-goes : alterTo i e r ≡ tested e r (changeEnds i r (changed 2 i (editAt e) (editBytes e) (objects r) (area r)))
     unfolding alterTo
     alter-goes = on-object-good r i r _ (sym q ∙ z)
 
@@ -150,12 +151,12 @@ module _ (i : ℕ) (e : Edit) (r : List ℕ) (k : ℕ) (q : k ≡ objectFault r 
     alter-refused a j which at t f = settle (alter-goes ∙ t _) f refl
 
     pub alter-done : (n at : ℕ) (b r₁ : List ℕ) (a : Answer) → ((rest : Outcome) → tested e r rest ≡ rest) → n ≡ objects r → at ≡ editAt e → b ≡ editBytes e
-        → (a ≡ finish i r (changed 2 i at b n (area r)) .answer) × (r₁ ≡ finish i r (changed 2 i at b n (area r)) .bytes)
+        → (a ≡ changeEnds i r (changed 2 i at b n (area r)) .answer) × (r₁ ≡ changeEnds i r (changed 2 i at b n (area r)) .bytes)
         → (a ≡ alterTo i e r .answer) × (r₁ ≡ alterTo i e r .bytes)
     alter-done n at b r₁ a t en ea eb h = settle (alter-goes ∙ t _ ∙ rw (en, ea, eb)) (h .0) (h .1)
 
 -- what the change asks of the room
-pub alter-asks : (r : List ℕ) (i k n : ℕ) → k ≡ objectFault r i → k ≡ 0 → n ≡ objects r → Head r × ((i < limit r) × (n ≤ limit r))
+pub alter-asks : (r : List ℕ) (i k n : ℕ) → k ≡ objectFault r i → k ≡ 0 → n ≡ objects r → Head r × ((i < objectLimit r) × (n ≤ objectLimit r))
 alter-asks r i k n q z e =
     let f = object-facts r i (sym q ∙ z) in
     let h = formed-head r (f .0) in
@@ -170,11 +171,11 @@ module _ (new : New) (r : List ℕ) (k : ℕ) (q : k ≡ addFault r (new .parent
 
   module _ (z : k ≡ 0) where
     add-goes : addTo new r
-        ≡ readable (new .list) 2 r
+        ≡ readableTo (new .list) 2 r
         (need (ordinary (new .owner)) (refuse 6 0 0 r)
         (need (ordinary (new .group)) (refuse 6 0 0 r)
-        (need (short (new .list)) (refuse 8 0 0 r)
-        (finish (objects r) r (changed 1 (objects r) 0 (blockFor new) (objects r + 1) (area r))))))
+        (need (shortIf (new .list)) (refuse 8 0 0 r)
+        (changeEnds (objects r) r (changed 1 (objects r) 0 (blockFor new) (objects r + 1) (area r))))))
     unfolding addTo
     add-goes = add-good r (new .parent) r _ (sym q ∙ z)
 
@@ -186,8 +187,8 @@ module _ (new : New) (r : List ℕ) (k : ℕ) (q : k ≡ addFault r (new .parent
         add-reads : addTo new r
             ≡ need (ordinary (new .owner)) (refuse 6 0 0 r)
             (need (ordinary (new .group)) (refuse 6 0 0 r)
-            (need (short (new .list)) (refuse 8 0 0 r)
-            (finish (objects r) r (changed 1 (objects r) 0 (blockFor new) (objects r + 1) (area r)))))
+            (need (shortIf (new .list)) (refuse 8 0 0 r)
+            (changeEnds (objects r) r (changed 1 (objects r) 0 (blockFor new) (objects r + 1) (area r)))))
         add-reads = add-goes ∙ readable-good (new .list) 2 r _ (rw e at h)
 
         pub add-owner : (a : Answer) → ordinary (new .owner) ≡ false → a ≡ Refused 6 0 0 → (a ≡ addTo new r .answer) × (r ≡ addTo new r .bytes)
@@ -198,16 +199,16 @@ module _ (new : New) (r : List ℕ) (k : ℕ) (q : k ≡ addFault r (new .parent
           add-group a g t = settle (add-reads ∙ need-yes 6 r _ o ∙ need-no 6 r _ g) t refl
 
           module _ (g : ordinary (new .group) ≡ true) where
-            pub add-long : (a : Answer) → short (new .list) ≡ false → a ≡ Refused 8 0 0 → (a ≡ addTo new r .answer) × (r ≡ addTo new r .bytes)
+            pub add-long : (a : Answer) → shortIf (new .list) ≡ false → a ≡ Refused 8 0 0 → (a ≡ addTo new r .answer) × (r ≡ addTo new r .bytes)
             add-long a s t = settle (add-reads ∙ need-yes 6 r _ o ∙ need-yes 6 r _ g ∙ need-no 8 r _ s) t refl
 
-            pub add-done : (n : ℕ) (b r₁ : List ℕ) (a : Answer) → short (new .list) ≡ true → n ≡ objects r → b ≡ blockFor new
-                → (a ≡ finish n r (changed 1 n 0 b (n + 1) (area r)) .answer) × (r₁ ≡ finish n r (changed 1 n 0 b (n + 1) (area r)) .bytes)
+            pub add-done : (n : ℕ) (b r₁ : List ℕ) (a : Answer) → shortIf (new .list) ≡ true → n ≡ objects r → b ≡ blockFor new
+                → (a ≡ changeEnds n r (changed 1 n 0 b (n + 1) (area r)) .answer) × (r₁ ≡ changeEnds n r (changed 1 n 0 b (n + 1) (area r)) .bytes)
                 → (a ≡ addTo new r .answer) × (r₁ ≡ addTo new r .bytes)
             add-done n b r₁ a s en eb t = settle (add-reads ∙ need-yes 6 r _ o ∙ need-yes 6 r _ g ∙ need-yes 8 r _ s ∙ rw (en, eb)) (t .0) (t .1)
 
 -- what the change asks of the room
-pub add-asks : (r : List ℕ) (p k n : ℕ) → k ≡ addFault r p → k ≡ 0 → n ≡ objects r → Head r × ((n < limit r) × (n + 1 ≤ limit r))
+pub add-asks : (r : List ℕ) (p k n : ℕ) → k ≡ addFault r p → k ≡ 0 → n ≡ objects r → Head r × ((n < objectLimit r) × (n + 1 ≤ objectLimit r))
 add-asks r p k n q z e =
     let f = add-facts r p (sym q ∙ z) in
     (formed-head r (f .is-formed), (omega (arith, f .below), omega (arith, f .below)))
@@ -218,19 +219,19 @@ pub undo-13 : (r : List ℕ) (a : Answer) → formed r ≡ false → a ≡ Refus
 unfolding undoTo
 undo-13 r a f t = settle (need-no 13 r _ f) t refl
 
-module _ (r : List ℕ) (k : ℕ) (f : formed r ≡ true) (q : k ≡ kept r) where
+module _ (r : List ℕ) (k : ℕ) (f : formed r ≡ true) (q : k ≡ keptSteps r) where
   pub undo-11 : (a : Answer) → k ≡ 0 → a ≡ Refused 11 0 0 → (a ≡ undoTo r .answer) × (r ≡ undoTo r .bytes)
   unfolding undoTo
-  undo-11 a z t = settle (need-yes 13 r _ f ∙ need-no 11 r _ (le-ltb 0 (kept r) (omega arith))) t refl
+  undo-11 a z t = settle (need-yes 13 r _ f ∙ need-no 11 r _ (le-ltb 0 (keptSteps r) (omega arith))) t refl
 
   module _ (z : k ≡ 0 → ⊥) where
-    some-kept : 0 < kept r
+    some-kept : 0 < keptSteps r
     some-kept = omega arith
 
-    pub undo-asks : Head r × ((0 < kept r) × (numberOf (latest r) < limit r))
+    pub undo-asks : Head r × ((0 < keptSteps r) × (stepObject (latest r) < objectLimit r))
     undo-asks = (formed-head r f, (some-kept, latest-within r f some-kept))
 
-    pub undo-done : (r₁ : List ℕ) (a : Answer) → (a ≡ finishUndo r (undone (area r)) .answer) × (r₁ ≡ finishUndo r (undone (area r)) .bytes)
+    pub undo-done : (r₁ : List ℕ) (a : Answer) → (a ≡ undoEnds r (stepTakenBack (area r)) .answer) × (r₁ ≡ undoEnds r (stepTakenBack (area r)) .bytes)
         → (a ≡ undoTo r .answer) × (r₁ ≡ undoTo r .bytes)
     unfolding undoTo
-    undo-done r₁ a h = settle (need-yes 13 r _ f ∙ need-yes 11 r _ (lt-ltb 0 (kept r) some-kept)) (h .0) (h .1)
+    undo-done r₁ a h = settle (need-yes 13 r _ f ∙ need-yes 11 r _ (lt-ltb 0 (keptSteps r) some-kept)) (h .0) (h .1)

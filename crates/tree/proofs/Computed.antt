@@ -22,10 +22,10 @@ use Rattle.inherit.specs.Source.{sourceOf}
 use Rattle.inherit.specs.Branch.{Result, absent, holds, resultOf}
 use Rattle.inherit.specs.Compute.{ruleOk, sizeFor, fits, withRoom, computeOf, bytesFor}
 use Rattle.inherit.proofs.Theorems.{Passed, passed-room, present-fits, Computes, computes, listed-source, absent-source}
+use Rattle.tree.specs.Model.{shortIf}
 use Rattle.tree.specs.Held.{held, slotFor, slotOk, isDone, typeOf, ownSlot, ownList, blockOk}
 use Rattle.tree.specs.Room.{ruleOf, defaultOf}
 use Rattle.tree.specs.Work.{askedIn, taken, computed}
-use Rattle.tree.specs.Calls.{short}
 use Rattle.tree.proofs.Replay.{reads}
 use Rattle.tree.proofs.Lays.{length-slot}
 use Rattle.tree.proofs.Slots.{held-slot, slot-good, slot-reads, id-ordinary}
@@ -40,16 +40,16 @@ module _ (e : List ℕ) (p : MaybeList) (b : List ℕ) where
   abbrev bytes : List ℕ
   bytes = bytesFor (resultOf access (askedIn e p b))
 
-  bytes-good : answer .present ≡ 1 → (short (some bytes) ≡ true) × (reads (some bytes) ≡ true)
-  unfolding short reads
+  bytes-good : answer .present ≡ 1 → (shortIf (some bytes) ≡ true) × (reads (some bytes) ≡ true)
+  unfolding shortIf reads
   bytes-good h =
       let f = present-fits (askedIn e p b) 1024 h in
       let c = computes (askedIn e p b) 1024 h in
       (le-leb (length bytes) 1024 (omega arith), ap isDone (c .done))
 
   good-of : (o : MaybeList) (z y : Bool) → eqb (answer .number) 0 ≡ z → eqb (answer .present) 1 ≡ y → cond z (some (lent y bytes)) none ≡ some o
-      → (short o ≡ true) × (reads o ≡ true)
-  unfolding short reads
+      → (shortIf o ≡ true) × (reads o ≡ true)
+  unfolding shortIf reads
   good-of o true true q g h =
       let x : o ≡ some bytes = cc in
       rw x (bytes-good (eqb-true (answer .present) 1 g))
@@ -59,11 +59,11 @@ module _ (e : List ℕ) (p : MaybeList) (b : List ℕ) where
   good-of o false y q g h = let z : _≡_ {A = ℕ} 0 1 = cc in absurd (omega arith)
 
   module _ (o : MaybeList) (h : computed e p b ≡ some o) where
-    computed-good : (short o ≡ true) × (reads o ≡ true)
+    computed-good : (shortIf o ≡ true) × (reads o ≡ true)
     unfolding computed
     computed-good = good-of o _ _ refl refl h
 
-    pub computed-short : short o ≡ true
+    pub computed-short : shortIf o ≡ true
     computed-short = computed-good .0
 
     pub computed-reads : reads o ≡ true

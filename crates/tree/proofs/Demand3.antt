@@ -14,18 +14,19 @@ use Rattle.list.specs.Answer.{Values, done, refused}
 use Rattle.list.proofs.Tests.{both-true, off}
 use Rattle.inherit.specs.Asked.{MaybeList}
 use Rattle.inherit.specs.Compute.{ruleOk}
+use Rattle.tree.specs.Model.{shortIf, limitsOk}
 use Rattle.tree.specs.declared.Answer.{Answer}
 use Rattle.tree.specs.declared.Answer.the-variants.{Done, Refused}
 use Rattle.tree.specs.General.{isSome, rest, bind}
 use Rattle.tree.specs.Held.{held}
-use Rattle.tree.specs.Room.{limit, depth, objects, kept, roomFor, limitsOk, settings, settingsFor, slot, emptyRoom}
+use Rattle.tree.specs.Room.{objectLimit, stepLimit, objects, keptSteps, roomFor, settings, settingsFor, slot, emptyRoom}
 use Rattle.tree.specs.Formed.{formed}
-use Rattle.tree.specs.Calls.{Outcome, refuse, short, startOk, startTo, undoTo, answerValues, countsTo, Change, add, alter}
+use Rattle.tree.specs.Calls.{Outcome, refuse, startOk, startTo, undoTo, answerValues, countsTo, ChangeGiven, add, alter}
 use Rattle.tree.proofs.History.{Call as Step, edit, undo as take-back, Past, remains, next, noted, unnoted, accepts, afresh}
 use Rattle.tree.proofs.Replay.{reads, rules, work, shown}
 use Rattle.tree.proofs.Played.{callTo, accepted, played}
 use Rattle.tree.specs.Model as Model
-use Rattle.tree.specs.Shown.{Begin, settingsIn, settingsFrom, objectsIn, changeMeant, Call, start, change, undo, read, counts, meant, startWith, changeWith, readWith, callOn, answerTo, playedOn}
+use Rattle.tree.specs.Shown.{Begin, settingsIn, settingsFrom, objectsIn, changeMeant, Request, start, change, undo, read, counts, meant, startWith, changeWith, readWith, callOn, answerTo, playedOn}
 use Rattle.tree.proofs.Tab.{getD-tab}
 use Rattle.tree.proofs.Settings.{rule-of, mapping-of, default-of}
 use Rattle.tree.proofs.Keeps.{Formed, formed-facts}
@@ -49,11 +50,11 @@ three-needs false b c r o v e = refl
 
 -- on any bytes, a start answers what the model answers
 pub start-as : (b : Begin) (r : List ℕ) → said (startWith b r) ≡ Model.startAnswer (settingsFrom b) (leb (roomFor (b .objects) (b .steps)) (length r))
-unfolding startTo startOk limitsOk Model.startAnswer Model.limitsOk
+unfolding startTo startOk Model.startAnswer Model.limitsOk
 start-as b r =
     three-needs _ _ _ r _ _
     (readable-as 3 r _ _ (b .default) (λ g.
-    test-as (short (b .default)) _ 8 r _ _ (short-is (b .default)) (λ f. refl)))
+    test-as (shortIf (b .default)) _ 8 r _ _ (short-is (b .default)) (λ f. refl)))
 
 -- ---- what a room shows of the model's tree, and what calls on it answer
 
@@ -63,21 +64,21 @@ pub record Shows (long : ℕ) (r : List ℕ) (s : Model.Tree) : Type 0 where
   pub settings-are : settingsIn r ≡ s .settings
   pub objects-are : objectsIn r ≡ Model.objectsOf s
   pub lists-are : (i : ℕ) → i < objects r → Model.listOf (s .settings) (Model.objectsOf s) i ≡ some (held (slot i r))
-  pub kept-are : kept r ≡ s .kept
-  pub answers : (q : Call) → answerTo q r ≡ Model.answer s (meant long q)
+  pub kept-are : keptSteps r ≡ s .kept
+  pub answers : (q : Request) → answerTo q r ≡ Model.answer s (meant long q)
   pub read-back : (x : Model.Part) (i : ℕ) (out : List ℕ) → readWith x i r out .bytes ≡ Model.readInto (s .settings) (Model.objectsOf s) x i out
 
 -- ---- a start, and the changes and undos since
 
-call-change : (c : Change) (r : List ℕ) → callTo (edit c) r ≡ changeWith c r
+call-change : (c : ChangeGiven) (r : List ℕ) → callTo (edit c) r ≡ changeWith c r
 unfolding callTo changeWith
 call-change (add new) r = refl
 call-change (alter i x) r = refl
 
-abbrev treeOf : Begin → Past Change → Model.Tree
+abbrev treeOf : Begin → Past ChangeGiven → Model.Tree
 treeOf b p = record { settings = settingsFrom b; changes = map changeMeant (p .done); kept = p .left }
 
-rest-map : (cs : List Change) → rest (map changeMeant cs) ≡ map changeMeant (rest cs)
+rest-map : (cs : List ChangeGiven) → rest (map changeMeant cs) ≡ map changeMeant (rest cs)
 unfolding rest
 rest-map [] = refl
 rest-map (c ∷ cs) = refl
@@ -86,25 +87,25 @@ module _ (b : Begin) (r : List ℕ) (h : accepted (startWith b r .answer) ≡ tr
   abbrev e : List ℕ
   e = settingsFor (b .rule) (b .mapping) (b .default)
 
-  abbrev room : List (Step Change) → List ℕ
+  abbrev room : List (Step ChangeGiven) → List ℕ
   room qs = played qs (startWith b r .bytes)
 
-  past : List (Step Change) → Past Change
+  past : List (Step ChangeGiven) → Past ChangeGiven
   past qs = remains (rules (b .objects) e) (b .steps) qs
 
-  abbrev tree : List (Step Change) → Model.Tree
+  abbrev tree : List (Step ChangeGiven) → Model.Tree
   tree qs = treeOf b (past qs)
 
-  H : (qs : List (Step Change)) → Reached (b .objects) (b .steps) e (startWith b r .bytes) qs
+  H : (qs : List (Step ChangeGiven)) → Reached (b .objects) (b .steps) e (startWith b r .bytes) qs
   H qs = reaches (b .objects) (b .steps) (b .rule) (b .mapping) (b .default) r h qs
 
   B : Begun (b .objects) (b .steps) (b .rule) (b .mapping) (b .default) r
   B = begun (b .objects) (b .steps) (b .rule) (b .mapping) (b .default) r h
 
-  F : (qs : List (Step Change)) → Formed (room qs)
+  F : (qs : List (Step ChangeGiven)) → Formed (room qs)
   F qs = formed-facts (room qs) (H qs .well)
 
-  settings-as : (qs : List (Step Change)) → settingsIn (room qs) ≡ settingsFrom b
+  settings-as : (qs : List (Step ChangeGiven)) → settingsIn (room qs) ≡ settingsFrom b
   settings-as qs =
       rw (
         H qs .limit-is,
@@ -115,20 +116,20 @@ module _ (b : Begin) (r : List ℕ) (h : accepted (startWith b r .answer) ≡ tr
       )
       (rw (rule-of (b .rule) (b .mapping) (b .default)) refl)
 
-  replayed-as : (qs : List (Step Change)) → Good (shown (room qs) .own) × (objectsFrom (shown (room qs) .own) ≡ Model.objectsOf (tree qs))
+  replayed-as : (qs : List (Step ChangeGiven)) → Good (shown (room qs) .own) × (objectsFrom (shown (room qs) .own) ≡ Model.objectsOf (tree qs))
   unfolding past
   replayed-as qs =
       replay-like (b .objects) (b .steps) e (start-facts (b .objects) (b .steps) (b .rule) (length r) (B .in-range) .objects-64)
       (past qs .done) (shown (room qs) .own) (H qs .data-replayed)
 
-  objects-as : (qs : List (Step Change)) → objectsIn (room qs) ≡ Model.objectsOf (tree qs)
+  objects-as : (qs : List (Step ChangeGiven)) → objectsIn (room qs) ≡ Model.objectsOf (tree qs)
   objects-as qs = sym (objects-shown (room qs)) ∙ replayed-as qs .1
 
-  work-as : (qs : List (Step Change)) → work (settings (room qs)) (shown (room qs) .own) ≡ some (shown (room qs) .lists)
+  work-as : (qs : List (Step ChangeGiven)) → work (settings (room qs)) (shown (room qs) .own) ≡ some (shown (room qs) .lists)
   unfolding afresh bind rules
   work-as qs = rw (H qs .settings-are) (rw (H qs .data-replayed) at (H qs .lists-afresh))
 
-  lists-as : (qs : List (Step Change)) (i : ℕ) → i < objects (room qs) → Model.listOf (settingsFrom b) (Model.objectsOf (tree qs)) i ≡ some (held (slot i (room qs)))
+  lists-as : (qs : List (Step ChangeGiven)) (i : ℕ) → i < objects (room qs) → Model.listOf (settingsFrom b) (Model.objectsOf (tree qs)) i ≡ some (held (slot i (room qs)))
   unfolding shown
   lists-as qs i k =
       rw (← settings-as qs, ← replayed-as qs .1)
@@ -137,10 +138,10 @@ module _ (b : Begin) (r : List ℕ) (h : accepted (startWith b r .answer) ≡ tr
       ∙ ap some (getD-tab (objects (room qs)) (λ j. held (slot j (room qs))) i none k))
 
   -- each call's answer
-  change-said : (qs : List (Step Change)) (c : Change) → said (changeWith c (room qs)) ≡ Model.changeAnswer (settingsFrom b) (Model.objectsOf (tree qs)) (changeMeant c)
+  change-said : (qs : List (Step ChangeGiven)) (c : ChangeGiven) → said (changeWith c (room qs)) ≡ Model.changeAnswer (settingsFrom b) (Model.objectsOf (tree qs)) (changeMeant c)
   change-said qs c = rw (← settings-as qs, ← objects-as qs) (change-as (room qs) (F qs) c)
 
-  undo-said : (qs : List (Step Change)) → said (undoTo (room qs)) ≡ Model.undoAnswer (past qs .left)
+  undo-said : (qs : List (Step ChangeGiven)) → said (undoTo (room qs)) ≡ Model.undoAnswer (past qs .left)
   unfolding past Model.undoAnswer
   undo-said qs = by (past qs .left) refl
     where
@@ -148,18 +149,18 @@ module _ (b : Begin) (r : List ℕ) (h : accepted (startWith b r .answer) ≡ tr
       by zero z = ap answerValues (H qs .undo-refused z)
       by (suc k) z = ap answerValues (H qs .undo-done (omega arith))
 
-  read-said : (qs : List (Step Change)) (x : Model.Part) (i : ℕ) (out : List ℕ)
+  read-said : (qs : List (Step ChangeGiven)) (x : Model.Part) (i : ℕ) (out : List ℕ)
       → ReadAs (readWith x i (room qs) out) (Model.readAnswer (settingsFrom b) (Model.objectsOf (tree qs)) x i (length out))
       (Model.readInto (settingsFrom b) (Model.objectsOf (tree qs)) x i out)
   read-said qs x i out =
       rw (← objects-as qs)
       (part-as (room qs) (F qs) (settingsFrom b) (λ j k. ap (λ (os : List Model.Object). Model.listOf (settingsFrom b) os j) (objects-as qs) ∙ lists-as qs j k) x i out)
 
-  counts-said : (qs : List (Step Change)) → answerValues (countsTo (room qs)) ≡ done (length (Model.objectsOf (tree qs))) 1 (past qs .left) 0
+  counts-said : (qs : List (Step ChangeGiven)) → answerValues (countsTo (room qs)) ≡ done (length (Model.objectsOf (tree qs))) 1 (past qs .left) 0
   unfolding past
   counts-said qs = counts-as (room qs) (F qs) ∙ rw (objects-as qs, H qs .steps-left) refl
 
-  all-said : (qs : List (Step Change)) (q : Call) → answerTo q (room qs) ≡ Model.answer (tree qs) (meant (length (room qs)) q)
+  all-said : (qs : List (Step ChangeGiven)) (q : Request) → answerTo q (room qs) ≡ Model.answer (tree qs) (meant (length (room qs)) q)
   unfolding callOn Model.answer meant
   all-said qs (start c) = start-as c (room qs)
   all-said qs (change c) = change-said qs c
@@ -167,7 +168,7 @@ module _ (b : Begin) (r : List ℕ) (h : accepted (startWith b r .answer) ≡ tr
   all-said qs (read x i out) = read-said qs x i out .answer-is
   all-said qs counts = counts-said qs
 
-  shows : (qs : List (Step Change)) → Shows (length (room qs)) (room qs) (tree qs)
+  shows : (qs : List (Step ChangeGiven)) → Shows (length (room qs)) (room qs) (tree qs)
   unfolding past
   shows qs =
       record {
@@ -182,18 +183,18 @@ module _ (b : Begin) (r : List ℕ) (h : accepted (startWith b r .answer) ≡ tr
       }
 
   -- one change or undo more
-  noted-as : (p : Past Change) (c : Change) (o : Option (List MaybeList))
+  noted-as : (p : Past ChangeGiven) (c : ChangeGiven) (o : Option (List MaybeList))
       → cond (isSome o) (Model.noted (treeOf b p) (changeMeant c)) (treeOf b p) ≡ treeOf b (noted (rules (b .objects) e) (b .steps) p c o)
   unfolding noted isSome
   noted-as p c none = refl
   noted-as p c (some l) = refl
 
-  off-as : (p : Past Change) (k : ℕ) → Model.takenOff (treeOf b p) k ≡ treeOf b (unnoted (rules (b .objects) e) (b .steps) p k)
+  off-as : (p : Past ChangeGiven) (k : ℕ) → Model.takenOff (treeOf b p) k ≡ treeOf b (unnoted (rules (b .objects) e) (b .steps) p k)
   unfolding Model.takenOff unnoted
   off-as p zero = refl
   off-as p (suc k) = rw (rest-map (p .done)) refl
 
-  change-next : (qs : List (Step Change)) (c : Change) → Model.next (tree qs) (Model.change (changeMeant c)) ≡ tree (edit c ∷ qs)
+  change-next : (qs : List (Step ChangeGiven)) (c : ChangeGiven) → Model.next (tree qs) (Model.change (changeMeant c)) ≡ tree (edit c ∷ qs)
   unfolding Model.next Model.answer past remains next accepts callTo changeWith
   change-next qs c =
       let a : Model.accepted (Model.changeAnswer (settingsFrom b) (Model.objectsOf (tree qs)) (changeMeant c))
@@ -202,26 +203,26 @@ module _ (b : Begin) (r : List ℕ) (h : accepted (startWith b r .answer) ≡ tr
       ap (λ (x : Bool). cond x (Model.noted (tree qs) (changeMeant c)) (tree qs)) a
       ∙ noted-as (past qs) c (afresh (rules (b .objects) e) (b .steps) (c ∷ past qs .done))
     where
-      called : (c : Change) → accepted (changeWith c (room qs) .answer) ≡ isSome (afresh (rules (b .objects) e) (b .steps) (c ∷ past qs .done))
+      called : (c : ChangeGiven) → accepted (changeWith c (room qs) .answer) ≡ isSome (afresh (rules (b .objects) e) (b .steps) (c ∷ past qs .done))
       called c = ap (λ (o : Outcome). accepted (o .answer)) (sym (call-change c (room qs))) ∙ H qs .answered (edit c)
 
-  undo-next : (qs : List (Step Change)) → Model.next (tree qs) Model.undo ≡ tree (take-back ∷ qs)
+  undo-next : (qs : List (Step ChangeGiven)) → Model.next (tree qs) Model.undo ≡ tree (take-back ∷ qs)
   unfolding Model.next past remains next
   undo-next qs = off-as (past qs) (past qs .left)
 
 -- ---- all calls
 
-stepMeant : Step Change → Model.Call
+stepMeant : Step ChangeGiven → Model.Call
 stepMeant (edit c) = Model.change (changeMeant c)
 stepMeant take-back = Model.undo
 
-step-next : (b : Begin) (r : List ℕ) (h : accepted (startWith b r .answer) ≡ true) (qs : List (Step Change)) (q : Step Change)
+step-next : (b : Begin) (r : List ℕ) (h : accepted (startWith b r .answer) ≡ true) (qs : List (Step ChangeGiven)) (q : Step ChangeGiven)
     → Model.next (tree b r h qs) (stepMeant q) ≡ tree b r h (q ∷ qs)
 unfolding stepMeant
 step-next b r h qs (edit c) = change-next b r h qs c
 step-next b r h qs take-back = undo-next b r h qs
 
-edit-meant : (s : Model.Tree) (c : Change) → Model.next s (stepMeant (edit c)) ≡ Model.next s (Model.change (changeMeant c))
+edit-meant : (s : Model.Tree) (c : ChangeGiven) → Model.next s (stepMeant (edit c)) ≡ Model.next s (Model.change (changeMeant c))
 unfolding stepMeant
 edit-meant s c = refl
 
@@ -256,7 +257,7 @@ record Follows (long : ℕ) (r : List ℕ) (s : Model.Tree) : Type 0 where
   given : Begin
   before : List ℕ
   accepts-it : accepted (startWith given before .answer) ≡ true
-  steps : List (Step Change)
+  steps : List (Step ChangeGiven)
   room-is : r ≡ room given before accepts-it steps
   tree-is : s ≡ tree given before accepts-it steps
   long-is : length r ≡ long
@@ -277,7 +278,7 @@ module _ {long : ℕ} {r : List ℕ} {s : Model.Tree} (f : Follows long r s) whe
       (subst (λ (x : Model.Tree). Shows (length R) R x) (sym (f .tree-is)) (shows (f .given) (f .before) (f .accepts-it) (f .steps))))
 
   -- a change or an undo
-  follows-step : (q : Step Change) (s′ : Model.Tree) → Model.next s (stepMeant q) ≡ s′ → Follows long (callTo q r .bytes) s′
+  follows-step : (q : Step ChangeGiven) (s′ : Model.Tree) → Model.next s (stepMeant q) ≡ s′ → Follows long (callTo q r .bytes) s′
   unfolding played
   follows-step q s′ e =
       record {
@@ -297,7 +298,7 @@ module _ {long : ℕ} {r : List ℕ} {s : Model.Tree} (f : Follows long r s) whe
   follows-begin b false h =
       subst (λ (x : List ℕ). Follows long x s) (sym (start-stays (b .objects) (b .steps) (b .rule) (b .mapping) (b .default) r h)) f
 
-  follows-call : (q : Call) → Follows long (callOn q r .bytes) (Model.next s (meant long q))
+  follows-call : (q : Request) → Follows long (callOn q r .bytes) (Model.next s (meant long q))
   unfolding callOn meant
   follows-call (start b) = follows-begin′ b
     where
@@ -311,19 +312,19 @@ module _ {long : ℕ} {r : List ℕ} {s : Model.Tree} (f : Follows long r s) whe
   follows-call (read x i out) = subst (Follows long r) (sym (read-next s x i out)) f
   follows-call counts = subst (Follows long r) (sym (counts-next s)) f
 
-follows-all : (b : Begin) (r : List ℕ) → accepted (startWith b r .answer) ≡ true → (qs : List Call)
+follows-all : (b : Begin) (r : List ℕ) → accepted (startWith b r .answer) ≡ true → (qs : List Request)
     → Follows (length r) (playedOn qs (startWith b r .bytes)) (Model.after (Model.begun (settingsFrom b)) (map (meant (length r)) qs))
 unfolding playedOn Model.after
 follows-all b r h [] = follows-start b r h
 follows-all b r h (q ∷ qs) = follows-call (follows-all b r h qs) q
 
 -- the theorem
-pub demand3 : (b : Begin) (r : List ℕ) → accepted (startWith b r .answer) ≡ true → (qs : List Call)
+pub demand3 : (b : Begin) (r : List ℕ) → accepted (startWith b r .answer) ≡ true → (qs : List Request)
     → Shows (length r) (playedOn qs (startWith b r .bytes)) (Model.after (Model.begun (settingsFrom b)) (map (meant (length r)) qs))
 demand3 b r h qs = T (follows-all b r h qs)
 
 -- every call leaves a well-formed room well formed, reached by calls or not
-pub call-keeps : (r : List ℕ) → formed r ≡ true → (q : Call) → formed (callOn q r .bytes) ≡ true
+pub call-keeps : (r : List ℕ) → formed r ≡ true → (q : Request) → formed (callOn q r .bytes) ≡ true
 unfolding callOn playedOn callTo
 call-keeps r f (start b) = by (accepted (startWith b r .answer)) refl
   where

@@ -11,8 +11,9 @@ use Rattle.list.proofs.Places.{length-put, part-put-same, part-put-before, part
 use Rattle.list.proofs.Tests.{both-true}
 use Rattle.inherit.specs.Asked.{MaybeList}
 use Rattle.inherit.specs.Compute.{ordinary}
-use Rattle.tree.specs.Held.{slotFor, idFor, parentOf, kindOf, markOf, typeOf, ownerOf, groupOf, ownSlot, ownList, blockOk, yes}
-use Rattle.tree.specs.Calls.{Edit, list, mark, owners, editAt, editBytes, short}
+use Rattle.tree.specs.Model.{shortIf}
+use Rattle.tree.specs.Held.{slotFor, idFor, parentByteIn, kindByte, markByte, typeOf, ownerOf, groupOf, ownSlot, ownList, blockOk, yes}
+use Rattle.tree.specs.Calls.{Edit, list, mark, owners, editAt, editBytes}
 use Rattle.tree.proofs.Replay.{reads, fine}
 use Rattle.tree.proofs.Applied.{Alike}
 use Rattle.tree.proofs.Lays.{length-slot}
@@ -23,7 +24,7 @@ use Rattle.tree.proofs.Blocks.{part-all, part-first, part-past, type-pa
 pub edit-fits : (e : Edit) → fine e ≡ true → length (editBytes e) + editAt e ≤ 1184
 unfolding editAt editBytes fine
 edit-fits (list o) h =
-    let w = length-slot o (both-true (reads o) (short o) h .1) in
+    let w = length-slot o (both-true (reads o) (shortIf o) h .1) in
     omega arith
 edit-fits (mark m) h = omega arith
 edit-fits (owners o g) h =
@@ -37,7 +38,7 @@ edited e b = putAt (editAt e) (editBytes e) b
 
 module _ (b : List ℕ) (n : length b ≡ 1184) where
   -- the three changes
-  list-laid : (o : MaybeList) → short o ≡ true → Laid (edited (list o) b) (parentOf b) (kindOf b) (markOf b) (typeOf b) (part 19 69 b) (part 88 69 b) (slotFor o)
+  list-laid : (o : MaybeList) → shortIf o ≡ true → Laid (edited (list o) b) (parentByteIn b) (kindByte b) (markByte b) (typeOf b) (part 19 69 b) (part 88 69 b) (slotFor o)
   unfolding editAt editBytes
   list-laid o h =
       let x = slotFor o in
@@ -56,7 +57,7 @@ module _ (b : List ℕ) (n : length b ≡ 1184) where
         slot = part-put-same 157 1027 x b w (omega arith);
       }
 
-  mark-laid : (m : Bool) → Laid (edited (mark m) b) (parentOf b) (kindOf b) (yes m) (typeOf b) (part 19 69 b) (part 88 69 b) (ownSlot b)
+  mark-laid : (m : Bool) → Laid (edited (mark m) b) (parentByteIn b) (kindByte b) (yes m) (typeOf b) (part 19 69 b) (part 88 69 b) (ownSlot b)
   unfolding editAt editBytes
   mark-laid m =
       let x = yes m ∷ [] in
@@ -76,7 +77,7 @@ module _ (b : List ℕ) (n : length b ≡ 1184) where
       }
 
   owners-laid : (o g : List ℕ) → ordinary o ≡ true → ordinary g ≡ true
-      → Laid (edited (owners o g) b) (parentOf b) (kindOf b) (markOf b) (typeOf b) (idFor o) (idFor g) (ownSlot b)
+      → Laid (edited (owners o g) b) (parentByteIn b) (kindByte b) (markByte b) (typeOf b) (idFor o) (idFor g) (ownSlot b)
   unfolding editAt editBytes
   owners-laid o g ho hg =
       let lo = id-length o ho in
@@ -98,22 +99,22 @@ module _ (b : List ℕ) (n : length b ≡ 1184) where
       }
 
   -- what they set, and what they leave
-  pub list-shows : (o : MaybeList) → short o ≡ true
-      → Shows (edited (list o) b) (parentOf b) (kindOf b) (markOf b) (typeOf b) (ownerOf b) (groupOf b) o
+  pub list-shows : (o : MaybeList) → shortIf o ≡ true
+      → Shows (edited (list o) b) (parentByteIn b) (kindByte b) (markByte b) (typeOf b) (ownerOf b) (groupOf b) o
   list-shows o h = laid-shows (list-laid o h) refl refl (held-slot o h)
 
-  pub mark-shows : (m : Bool) → Shows (edited (mark m) b) (parentOf b) (kindOf b) (yes m) (typeOf b) (ownerOf b) (groupOf b) (ownList b)
+  pub mark-shows : (m : Bool) → Shows (edited (mark m) b) (parentByteIn b) (kindByte b) (yes m) (typeOf b) (ownerOf b) (groupOf b) (ownList b)
   mark-shows m = laid-shows (mark-laid m) refl refl refl
 
   pub owners-shows : (o g : List ℕ) → ordinary o ≡ true → ordinary g ≡ true
-      → Shows (edited (owners o g) b) (parentOf b) (kindOf b) (markOf b) (typeOf b) o g (ownList b)
+      → Shows (edited (owners o g) b) (parentByteIn b) (kindByte b) (markByte b) (typeOf b) o g (ownList b)
   owners-shows o g ho hg = laid-shows (owners-laid o g ho hg) (id-held o ho) (id-held g hg) refl
 
   -- any of them
   pub edit-keeps : (e : Edit) → fine e ≡ true → Alike (edited e b) b
   unfolding fine
   edit-keeps (list o) h =
-      let x = list-laid o (both-true (reads o) (short o) h .1) in
+      let x = list-laid o (both-true (reads o) (shortIf o) h .1) in
       record { parent = x .parent; kind = x .kind; type = x .type }
   edit-keeps (mark m) h =
       let x = mark-laid m in
@@ -127,7 +128,7 @@ module _ (b : List ℕ) (n : length b ≡ 1184) where
   unfolding fine
   edit-good (list o) h k =
       let s = block-sound b k in
-      let f = both-true (reads o) (short o) h in
+      let f = both-true (reads o) (shortIf o) h in
       laid-good (list-laid o (f .1)) (s .kind) (s .mark) (s .owner) (s .group) (slot-good o (f .1) (f .0))
   edit-good (mark m) h k =
       let s = block-sound b k in

@@ -18,9 +18,9 @@ use Rattle.inherit.specs.Asked.{MaybeList}
 use Rattle.tree.specs.declared.Answer.{Answer}
 use Rattle.tree.specs.declared.Answer.the-variants.{Done, Refused}
 use Rattle.tree.specs.General.{isSome, tab}
-use Rattle.tree.specs.Room.{limit, depth, objects, kept, settings, own, step, tagOf, numberOf, savedIn, area}
+use Rattle.tree.specs.Room.{objectLimit, stepLimit, objects, keptSteps, settings, ownData, step, stepTag, stepObject, stepData, area}
 use Rattle.tree.specs.Formed.{Head, stepsOk, formed}
-use Rattle.tree.specs.Calls.{Outcome, finishUndo, undone, undoTo, answerValues, Change}
+use Rattle.tree.specs.Calls.{Outcome, undoEnds, stepTakenBack, undoTo, answerValues, ChangeGiven}
 use Rattle.tree.proofs.History.{undo, settled, after, undone as undone-by}
 use Rattle.tree.proofs.Replay.{Blocks, Undo, back, undoIn, when, work, rules, shown, Tree}
 use Rattle.tree.proofs.Played.{callTo, accepted}
@@ -42,7 +42,7 @@ module _ (r : List ℕ) (F : Formed r) where
   earlier-shown = subst (λ (os : List Model.Object). Earlier os) (objects-shown r) (earlier-in (shown r .own) (good-shown r F))
 
   -- a change whose earlier tests were passed
-  pub no-room-exact : (c : Change) → earlier-tests (settingsIn r) (objectsIn r) (changeMeant c) ≡ true
+  pub no-room-exact : (c : ChangeGiven) → earlier-tests (settingsIn r) (objectsIn r) (changeMeant c) ≡ true
       → (said (changeWith c r) .number ≡ 8 → Over (settingsIn r) (objectsIn r) (changeMeant c))
       × (Over (settingsIn r) (objectsIn r) (changeMeant c) → said (changeWith c r) ≡ refused 8 0 0)
   no-room-exact c h = rw (change-as r F c) (change-exact (settingsIn r) (objectsIn r) earlier-shown (changeMeant c) h)
@@ -73,7 +73,7 @@ settled-as N S e d us (some l) true x h = refl
 settled-as N S e d us (some l) false x h = let z : _≡_ {A = ℕ} 0 1 = cc in absurd (omega arith)
 
 undo-told : (r : List ℕ) → formed r ≡ true
-    → after (rules (limit r) (settings r)) (depth r) (shown r) undo ≡ when (accepted (undoTo r .answer)) (shown (undoTo r .bytes))
+    → after (rules (objectLimit r) (settings r)) (stepLimit r) (shown r) undo ≡ when (accepted (undoTo r .answer)) (shown (undoTo r .bytes))
 unfolding callTo
 undo-told r f = call-ends r f undo .told
 
@@ -82,35 +82,35 @@ unfolding need
 needs true e = rw e refl
 needs false e = rw e refl
 
-module _ (r : List ℕ) (F : Formed r) (p : 0 < kept r) where
+module _ (r : List ℕ) (F : Formed r) (p : 0 < keptSteps r) where
   abbrev u : List ℕ
-  u = step (limit r) 0 r
+  u = step (objectLimit r) 0 r
 
   abbrev t : Model.Settings
   t = settingsIn r
 
-  first : shown r .kept ≡ undoIn u ∷ tab (kept r - 1) (λ j. undoIn (step (limit r) (suc j) r))
+  first : shown r .kept ≡ undoIn u ∷ tab (keptSteps r - 1) (λ j. undoIn (step (objectLimit r) (suc j) r))
   unfolding shown
-  first = tab-first (kept r) (λ j. undoIn (step (limit r) j r)) p
+  first = tab-first (keptSteps r) (λ j. undoIn (step (objectLimit r) j r)) p
 
   undo-refused : accepted (undoTo r .answer) ≡ false → undoTo r .answer ≡ Refused 8 0 0
-  unfolding undoTo need finishUndo
-  undo-refused a = rw (facts-formed r F, lt-ltb 0 (kept r) p) (by (undone (area r)) (rw (facts-formed r F, lt-ltb 0 (kept r) p) at a))
+  unfolding undoTo need undoEnds
+  undo-refused a = rw (facts-formed r F, lt-ltb 0 (keptSteps r) p) (by (stepTakenBack (area r)) (rw (facts-formed r F, lt-ltb 0 (keptSteps r) p) at a))
     where
-      by : (o : Option (List ℕ)) → accepted (finishUndo r o .answer) ≡ false → finishUndo r o .answer ≡ Refused 8 0 0
+      by : (o : Option (List ℕ)) → accepted (undoEnds r o .answer) ≡ false → undoEnds r o .answer ≡ Refused 8 0 0
       by none b = refl
       by (some w) b = let z : _≡_ {A = ℕ} 0 1 = cc in absurd (omega arith)
 
   machine-is : (d : Blocks) → back (undoIn u) (shown r .own) ≡ d
-      → after (rules (limit r) (settings r)) (depth r) (shown r) undo
-      ≡ settled (rules (limit r) (settings r)) (depth r) d (tab (kept r - 1) (λ j. undoIn (step (limit r) (suc j) r))) (work (settings r) d)
+      → after (rules (objectLimit r) (settings r)) (stepLimit r) (shown r) undo
+      ≡ settled (rules (objectLimit r) (settings r)) (stepLimit r) d (tab (keptSteps r - 1) (λ j. undoIn (step (objectLimit r) (suc j) r))) (work (settings r) d)
   unfolding after undone-by rules
   machine-is d e = rw (first, e) refl
 
   ends-as : (d : Blocks) → back (undoIn u) (shown r .own) ≡ d → Good d → said (undoTo r) ≡ need (Model.listed t (objectsFrom d)) (refused 8 0 0) (done 0 0 0 0)
   ends-as d e G = by (accepted (undoTo r .answer)) refl listed-is
     where
-      told : after (rules (limit r) (settings r)) (depth r) (shown r) undo ≡ when (accepted (undoTo r .answer)) (shown (undoTo r .bytes))
+      told : after (rules (objectLimit r) (settings r)) (stepLimit r) (shown r) undo ≡ when (accepted (undoTo r .answer)) (shown (undoTo r .bytes))
       told = undo-told r (facts-formed r F)
 
       listed-is : Model.listed t (objectsFrom d) ≡ accepted (undoTo r .answer)
@@ -121,9 +121,9 @@ module _ (r : List ℕ) (F : Formed r) (p : 0 < kept r) where
       by false a l = ap answerValues (undo-refused a) ∙ sym (needs false l)
 
   abbrev f : ℕ → List ℕ
-  f j = own j r
+  f j = ownData j r
 
-  saved-long : length (savedIn u) ≡ 1184
+  saved-long : length (stepData u) ≡ 1184
   unfolding step
   saved-long =
       let H : Head r = F .head in
@@ -133,8 +133,8 @@ module _ (r : List ℕ) (F : Formed r) (p : 0 < kept r) where
   own-long-below : (i : ℕ) → i < objects r → length (f i) ≡ 1184
   own-long-below i h = own-long r (F .head) i h
 
-  steps-are : stepsOk f (λ j. step (limit r) j r) (suc (kept r - 1)) 0 (objects r) ≡ true
-  steps-are = let e : kept r ≡ suc (kept r - 1) = omega arith in rw (← e) (F .steps)
+  steps-are : stepsOk f (λ j. step (objectLimit r) j r) (suc (keptSteps r - 1)) 0 (objects r) ≡ true
+  steps-are = let e : keptSteps r ≡ suc (keptSteps r - 1) = omega arith in rw (← e) (F .steps)
 
   -- own data as undo leaves it: good, and the objects that it shows
   record Back : Type 0 where
@@ -147,38 +147,38 @@ module _ (r : List ℕ) (F : Formed r) (p : 0 < kept r) where
   unfolding back undoIn shown objectsBack
   off-back a =
       let n = objects r in
-      let e : take (length (tab n f) - 1) (tab n f) ≡ tab (n - 1) (upd (n - 1) (savedIn u) f) = rw (length-tab n f) (less-tab n (savedIn u) f) in
-      let same : (j : ℕ) → j < n - 1 → f j ≡ upd (n - 1) (savedIn u) f j = λ j q. sym (upd-other (n - 1) (savedIn u) f j (λ z. absurd (omega arith))) in
+      let e : take (length (tab n f) - 1) (tab n f) ≡ tab (n - 1) (upd (n - 1) (stepData u) f) = rw (length-tab n f) (less-tab n (stepData u) f) in
+      let same : (j : ℕ) → j < n - 1 → f j ≡ upd (n - 1) (stepData u) f j = λ j q. sym (upd-other (n - 1) (stepData u) f j (λ z. absurd (omega arith))) in
       record {
-        blocks = tab (n - 1) (upd (n - 1) (savedIn u) f);
+        blocks = tab (n - 1) (upd (n - 1) (stepData u) f);
         is = rw (a .tag) e;
-        good = good-tab (n - 1) (upd (n - 1) (savedIn u) f) (owned-off n (n - 1) f (upd (n - 1) (savedIn u) f) (F .owned) (omega arith) same)
+        good = good-tab (n - 1) (upd (n - 1) (stepData u) f) (owned-off n (n - 1) f (upd (n - 1) (stepData u) f) (F .owned) (omega arith) same)
             (λ i h. rw (← same i h) (own-long-below i (omega arith)));
-        shows = rw (a .tag) (ap objectsFrom (sym (less-tab n (savedIn u) f)) ∙ map-take objectIn (n - 1) (tab n f) ∙ ap (take (n - 1)) (objects-shown r));
+        shows = rw (a .tag) (ap objectsFrom (sym (less-tab n (stepData u) f)) ∙ map-take objectIn (n - 1) (tab n f) ∙ ap (take (n - 1)) (objects-shown r));
       }
 
   again-back : Again f (objects r) u → Back
   unfolding back undoIn shown objectsBack
   again-back a =
       let n = objects r in
-      let i = numberOf u in
+      let i = stepObject u in
       record {
-        blocks = tab n (upd i (savedIn u) f);
-        is = rw (a .tag) (set-tab n i (savedIn u) f (a .number));
-        good = good-tab n (upd i (savedIn u) f) (owned-put n i (savedIn u) f (F .owned) (a .number) (a .block) (a .same)) long;
+        blocks = tab n (upd i (stepData u) f);
+        is = rw (a .tag) (set-tab n i (stepData u) f (a .number));
+        good = good-tab n (upd i (stepData u) f) (owned-put n i (stepData u) f (F .owned) (a .number) (a .block) (a .same)) long;
         shows = rw (a .tag)
-            (ap objectsFrom (sym (set-tab n i (savedIn u) f (a .number))) ∙ set-map objectIn (tab n f) i (savedIn u)
-            ∙ ap (λ (os : List Model.Object). set os i (objectIn (savedIn u))) (objects-shown r));
+            (ap objectsFrom (sym (set-tab n i (stepData u) f (a .number))) ∙ set-map objectIn (tab n f) i (stepData u)
+            ∙ ap (λ (os : List Model.Object). set os i (objectIn (stepData u))) (objects-shown r));
       }
     where
-      long : (j : ℕ) → j < objects r → length (upd (numberOf u) (savedIn u) f j) ≡ 1184
-      long j h = elim (ℕ-discrete j (numberOf u)) [
-        | yes q ↦ rw (q, upd-same (numberOf u) (savedIn u) f) saved-long
-        | no q ↦ rw (upd-other (numberOf u) (savedIn u) f j q) (own-long-below j h)
+      long : (j : ℕ) → j < objects r → length (upd (stepObject u) (stepData u) f j) ≡ 1184
+      long j h = elim (ℕ-discrete j (stepObject u)) [
+        | yes q ↦ rw (q, upd-same (stepObject u) (stepData u) f) saved-long
+        | no q ↦ rw (upd-other (stepObject u) (stepData u) f j q) (own-long-below j h)
       ]
 
   taken : Back
-  taken = ⊎-elim off-back again-back (latest (objects r) (kept r - 1) f (λ j. step (limit r) j r) steps-are)
+  taken = ⊎-elim off-back again-back (latest (objects r) (keptSteps r - 1) f (λ j. step (objectLimit r) j r) steps-are)
 
   -- what an undo answers in any well-formed room in which a step is kept
   pub undo-as : said (undoTo r) ≡ need (Model.listed t (objectsBack r)) (refused 8 0 0) (done 0 0 0 0)

@@ -9,9 +9,9 @@ use lib.ListN.{length, getD}
 use Rattle.list.specs.Bytes.{front}
 use Rattle.list.proofs.Tests.{both-true}
 use Rattle.tree.specs.General.{tab}
-use Rattle.tree.specs.Held.{held, blockOk, slotOk, parentOf}
-use Rattle.tree.specs.Room.{limit, depth, objects, kept, roomFor, settings, own, slot, step, area}
-use Rattle.tree.specs.Formed.{Head, settingsOk, placed, objectOk, stepsOk, formed}
+use Rattle.tree.specs.Held.{held, blockOk, slotOk, parentByteIn}
+use Rattle.tree.specs.Room.{objectLimit, stepLimit, objects, keptSteps, roomFor, settings, ownData, slot, step, area}
+use Rattle.tree.specs.Formed.{Head, settingsOk, placedIn, objectOk, stepsOk, formed}
 use Rattle.tree.proofs.Replay.{work, undoIn, shown}
 use Rattle.tree.proofs.Tested.{head-says, head-said, formed-parts, formed-from}
 use Rattle.tree.proofs.Applied.{every-at, every-all, alike-same, steps-same, steps-shift}
@@ -26,18 +26,18 @@ use Rattle.tree.proofs.Became.{Became}
 pub record Formed (r : List ℕ) : Type 0 where
   pub head : Head r
   pub settings-ok : settingsOk (settings r) ≡ true
-  pub owned : Owned (objects r) (λ j. own j r)
+  pub owned : Owned (objects r) (λ j. ownData j r)
   pub slots : (i : ℕ) → i < objects r → slotOk (slot i r) ≡ true
-  pub steps : stepsOk (λ i. own i r) (λ j. step (limit r) j r) (kept r) 0 (objects r) ≡ true
+  pub steps : stepsOk (λ i. ownData i r) (λ j. step (objectLimit r) j r) (keptSteps r) 0 (objects r) ≡ true
 
 object-facts : (r : List ℕ) (i : ℕ) → objectOk r i ≡ true
-    → (blockOk (own i r) ≡ true) × ((placed 255 (λ j. own j r) i (parentOf (own i r)) ≡ true) × (slotOk (slot i r) ≡ true))
+    → (blockOk (ownData i r) ≡ true) × ((placedIn 255 (λ j. ownData j r) i (parentByteIn (ownData i r)) ≡ true) × (slotOk (slot i r) ≡ true))
 unfolding objectOk
 object-facts r i h =
-    let a = both-true (blockOk (own i r)) _ h in
-    (a .0, both-true (placed 255 (λ j. own j r) i (parentOf (own i r))) (slotOk (slot i r)) (a .1))
+    let a = both-true (blockOk (ownData i r)) _ h in
+    (a .0, both-true (placedIn 255 (λ j. ownData j r) i (parentByteIn (ownData i r))) (slotOk (slot i r)) (a .1))
 
-object-from : (r : List ℕ) (i : ℕ) → blockOk (own i r) ≡ true → placed 255 (λ j. own j r) i (parentOf (own i r)) ≡ true → slotOk (slot i r) ≡ true
+object-from : (r : List ℕ) (i : ℕ) → blockOk (ownData i r) ≡ true → placedIn 255 (λ j. ownData j r) i (parentByteIn (ownData i r)) ≡ true → slotOk (slot i r) ≡ true
     → objectOk r i ≡ true
 unfolding objectOk
 object-from r i a b c = rw (a, b) c
@@ -85,32 +85,32 @@ work-as e n f o h =
 -- ---- the room after a change or an undo
 
 module _ (r : List ℕ) (F : Formed r) (w : List ℕ) (n : ℕ) (f : ℕ → List ℕ) (k : ℕ) (g : ℕ → List ℕ)
-    (B : Became (area r) w n f k g) (hn : n ≤ limit r) (hk : k ≤ depth r) (O : Owned n f) (T : stepsOk f g k 0 n ≡ true) where
+    (B : Became (area r) w n f k g) (hn : n ≤ objectLimit r) (hk : k ≤ stepLimit r) (O : Owned n f) (T : stepsOk f g k 0 n ≡ true) where
   h : Head r
   h = F .head
 
-  long : length w ≡ roomFor (limit r) (depth r)
+  long : length w ≡ roomFor (objectLimit r) (stepLimit r)
   long = B .size ∙ area-length r h
 
-  w-limit : limit w ≡ limit r
+  w-limit : objectLimit w ≡ objectLimit r
   w-limit = B .limits ∙ area-byte r 0 (omega arith)
 
-  w-depth : depth w ≡ depth r
+  w-depth : stepLimit w ≡ stepLimit r
   w-depth = B .depths ∙ area-byte r 1 (omega arith)
 
-  byte : (i : ℕ) → i < roomFor (limit r) (depth r) → getD (front w r) i 0 ≡ getD w i 0
+  byte : (i : ℕ) → i < roomFor (objectLimit r) (stepLimit r) → getD (front w r) i 0 ≡ getD w i 0
   byte = front-byte r h w long
 
-  pub new-limit : limit (front w r) ≡ limit r
+  pub new-limit : objectLimit (front w r) ≡ objectLimit r
   new-limit = byte 0 (omega arith) ∙ w-limit
 
-  pub new-depth : depth (front w r) ≡ depth r
+  pub new-depth : stepLimit (front w r) ≡ stepLimit r
   new-depth = byte 1 (omega arith) ∙ w-depth
 
   new-objects : objects (front w r) ≡ n
   new-objects = byte 2 (omega arith) ∙ B .count
 
-  new-kept : kept (front w r) ≡ k
+  new-kept : keptSteps (front w r) ≡ k
   new-kept = byte 3 (omega arith) ∙ B .steps
 
   pub new-length : length (front w r) ≡ length r
@@ -134,16 +134,16 @@ module _ (r : List ℕ) (F : Formed r) (w : List ℕ) (n : ℕ) (f : ℕ → Lis
   pub new-settings : settings (front w r) ≡ settings r
   new-settings = sym (area-settings (front w r)) ∙ ap settings is-area ∙ B .same-settings ∙ area-settings r
 
-  new-own : (j : ℕ) → j < n → own j (front w r) ≡ f j
-  new-own j q = sym (area-own (front w r) j (omega (arith, new-limit))) ∙ ap (own j) is-area ∙ B .owns j q
+  new-own : (j : ℕ) → j < n → ownData j (front w r) ≡ f j
+  new-own j q = sym (area-own (front w r) j (omega (arith, new-limit))) ∙ ap (ownData j) is-area ∙ B .owns j q
 
   new-slot : (j : ℕ) → j < n → slot j (front w r) ≡ slot j w
   new-slot j q = sym (area-slot (front w r) j (omega (arith, new-limit))) ∙ ap (slot j) is-area
 
-  new-step : (j : ℕ) → j < k → step (limit (front w r)) j (front w r) ≡ g j
+  new-step : (j : ℕ) → j < k → step (objectLimit (front w r)) j (front w r) ≡ g j
   new-step j q =
       sym (area-step (front w r) j (omega (arith, new-depth)))
-      ∙ ap (λ (x : List ℕ). step (limit (front w r)) j x) is-area
+      ∙ ap (λ (x : List ℕ). step (objectLimit (front w r)) j x) is-area
       ∙ ap (λ (m : ℕ). step m j w) (new-limit ∙ sym (area-byte r 0 (omega arith)))
       ∙ B .stepped j q
 
@@ -152,19 +152,19 @@ module _ (r : List ℕ) (F : Formed r) (w : List ℕ) (n : ℕ) (f : ℕ → Lis
       record {
         head = new-head;
         settings-ok = rw new-settings (F .settings-ok);
-        owned = subst (λ (m : ℕ). Owned m (λ j. own j (front w r))) (sym new-objects)
-            (owned-off n n f (λ j. own j (front w r)) O (omega arith) (λ j q. sym (new-own j q)));
+        owned = subst (λ (m : ℕ). Owned m (λ j. ownData j (front w r))) (sym new-objects)
+            (owned-off n n f (λ j. ownData j (front w r)) O (omega arith) (λ j q. sym (new-own j q)));
         slots = λ i q. let z : i < n = omega (arith, new-objects) in rw (new-slot i z) (B .slots i z);
         steps = rw (new-objects, new-kept)
-            (steps-as f (λ j. own j (front w r)) g (λ j. step (limit (front w r)) j (front w r)) k n (λ j q. sym (new-own j q)) (λ j q. sym (new-step j q)) T);
+            (steps-as f (λ j. ownData j (front w r)) g (λ j. step (objectLimit (front w r)) j (front w r)) k n (λ j q. sym (new-own j q)) (λ j q. sym (new-step j q)) T);
       }
 
   pub new-shown : shown (front w r) ≡ record { own = tab n f; lists = tab n (λ j. held (slot j w)); kept = tab k (λ j. undoIn (g j)) }
   unfolding shown
   new-shown =
-      let a : tab (objects (front w r)) (λ i. own i (front w r)) ≡ tab n f = tab-as _ n _ f new-objects new-own in
+      let a : tab (objects (front w r)) (λ i. ownData i (front w r)) ≡ tab n f = tab-as _ n _ f new-objects new-own in
       let b : tab (objects (front w r)) (λ i. held (slot i (front w r))) ≡ tab n (λ j. held (slot j w)) =
       tab-as _ n _ (λ j. held (slot j w)) new-objects (λ j q. ap held (new-slot j q)) in
-      let c : tab (kept (front w r)) (λ j. undoIn (step (limit (front w r)) j (front w r))) ≡ tab k (λ j. undoIn (g j)) =
+      let c : tab (keptSteps (front w r)) (λ j. undoIn (step (objectLimit (front w r)) j (front w r))) ≡ tab k (λ j. undoIn (g j)) =
       tab-as _ k _ (λ j. undoIn (g j)) new-kept (λ j q. ap undoIn (new-step j q)) in
       rw (a, b, c) refl

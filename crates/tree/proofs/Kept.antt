@@ -7,7 +7,7 @@ use borrow.Author.Tests.{lt-ltb}
 use lib.ListN.{length, take, set}
 use Rattle.list.specs.Bytes.{part, putAt}
 use Rattle.list.proofs.Places.{length-part, part-most, part-of-take, put-whole}
-use Rattle.tree.specs.Room.{limit, depth, kept, stepsAt, roomFor, own, area}
+use Rattle.tree.specs.Room.{objectLimit, stepLimit, keptSteps, stepsAt, roomFor, ownData, area}
 use Rattle.tree.specs.Calls.{shifted, pushed, popped}
 use Rattle.tree.proofs.Areas.{area-byte, area-own}
 use Rattle.tree.proofs.Tested.{part-within}
@@ -24,11 +24,11 @@ most a n l b e = rw e (part-most a n l)
 pub inside : (a n : ℕ) (l b : List ℕ) → b ≡ part a n l → length b ≤ length l
 inside a n l b e = rw e (part-within a n l)
 
-pub own-most : (i : ℕ) (r b : List ℕ) → b ≡ own i r → length b ≤ 1184
-unfolding own
+pub own-most : (i : ℕ) (r b : List ℕ) → b ≡ ownData i r → length b ≤ 1184
+unfolding ownData
 own-most i r b e = most (1048 + i * 2211) 1184 r b e
 
-module _ (r : List ℕ) (n s : ℕ) (en : n ≡ limit r) (es : s ≡ depth r) where
+module _ (r : List ℕ) (n s : ℕ) (en : n ≡ objectLimit r) (es : s ≡ stepLimit r) where
   area-is : area r ≡ take (roomFor n s) r
   area-is = rw (en, es)
 
@@ -39,7 +39,7 @@ module _ (r : List ℕ) (n s : ℕ) (en : n ≡ limit r) (es : s ≡ depth r) wh
         let l : length b ≡ length w = ap length e ∙ length-part 0 (roomFor n s) r (omega arith) ∙ sym lw in
         f ∙ put-whole b w l ∙ e ∙ sym area-is
 
-    pub shift-is : (k m : ℕ) (b w₁ c w₂ : List ℕ) → 0 < s → k ≡ kept r → m ≡ min s (k + 1)
+    pub shift-is : (k m : ℕ) (b w₁ c w₂ : List ℕ) → 0 < s → k ≡ keptSteps r → m ≡ min s (k + 1)
         → b ≡ part 0 (roomFor n s) r → w₁ ≡ putAt 0 b w
         → c ≡ part (stepsAt n) ((s - 1) * 1186) r → w₂ ≡ putAt (stepsAt n + 1186) c w₁
         → set w₂ 3 m ≡ shifted (area r)
@@ -50,7 +50,7 @@ module _ (r : List ℕ) (n s : ℕ) (en : n ≡ limit r) (es : s ≡ depth r) wh
         part-of-take (stepsAt n) ((s - 1) * 1186) (roomFor n s) r q in
         rw (f, ec, copy-is b w₁ eb e, area-byte r 0 (omega arith), area-byte r 1 (omega arith), area-byte r 3 (omega arith), ← en, ← es, ← ek, em, g)
 
-    pub pop-is : (k : ℕ) (b w₁ c w₂ : List ℕ) → 0 < s → k ≡ kept r
+    pub pop-is : (k : ℕ) (b w₁ c w₂ : List ℕ) → 0 < s → k ≡ keptSteps r
         → b ≡ part 0 (roomFor n s) r → w₁ ≡ putAt 0 b w
         → c ≡ part (stepsAt n + 1186) ((s - 1) * 1186) r → w₂ ≡ putAt (stepsAt n) c w₁
         → set w₂ 3 (k - 1) ≡ popped (area r)
@@ -68,8 +68,8 @@ module _ (r : List ℕ) (n s : ℕ) (en : n ≡ limit r) (es : s ≡ depth r) wh
         let q : stepsAt n ≡ roomFor n s = omega arith in
         copy-is b w₁ (e ∙ ap (λ (j : ℕ). part 0 j r) q) f ∙ rw (area-byte r 1 (omega arith), ← es, z)
 
-  pub push-some : (tag i : ℕ) (b w₁ w₂ : List ℕ) → 0 < s → i < n → b ≡ own i r → w₁ ≡ shifted (area r) → w₂ ≡ putAt (stepsAt n) (tag ∷ i ∷ b) w₁
-      → w₂ ≡ pushed (tag ∷ i ∷ own i (area r)) (area r)
+  pub push-some : (tag i : ℕ) (b w₁ w₂ : List ℕ) → 0 < s → i < n → b ≡ ownData i r → w₁ ≡ shifted (area r) → w₂ ≡ putAt (stepsAt n) (tag ∷ i ∷ b) w₁
+      → w₂ ≡ pushed (tag ∷ i ∷ ownData i (area r)) (area r)
   unfolding pushed
   push-some tag i b w₁ w₂ p h eb e f =
       f ∙ rw (e, eb, area-own r i (omega arith), area-byte r 0 (omega arith), area-byte r 1 (omega arith), ← es, ← en, lt-ltb 0 s p)

@@ -14,9 +14,9 @@ use Rattle.list.proofs.Little.{length-spell}
 use Rattle.list.proofs.Places.{put-one, put-snoc, put-append, put-whole, length-put}
 use Rattle.inherit.specs.declared.Mapping.{Mapping}
 use Rattle.inherit.specs.Asked.{MaybeList}
+use Rattle.tree.specs.Model.{shortIf}
 use Rattle.tree.specs.Held.{New, slotFor, idFor, blockFor, yes}
 use Rattle.tree.specs.Room.{settingsFor}
-use Rattle.tree.specs.Calls.{short}
 
 -- m is l with b, of n bytes, written at a
 pub record Written (a n : ℕ) (b l m : List ℕ) : Type 0 where
@@ -49,11 +49,11 @@ zero-more a i l m e h =
 pub length-padded : (n : ℕ) (s : List ℕ) → length s ≤ n → length (s ++ replicate (n - length s) 0) ≡ n
 length-padded n s h = simp (length-append, length-replicate) (omega arith)
 
-pub short-present : (s : List ℕ) → short (some s) ≡ true → length s ≤ 1024
-unfolding short
+pub short-present : (s : List ℕ) → shortIf (some s) ≡ true → length s ≤ 1024
+unfolding shortIf
 short-present s h = leb-true (length s) 1024 h
 
-pub length-slot : (o : MaybeList) → short o ≡ true → length (slotFor o) ≡ 1027
+pub length-slot : (o : MaybeList) → shortIf o ≡ true → length (slotFor o) ≡ 1027
 unfolding slotFor
 length-slot none h = length-replicate {A = ℕ} 1027 0
 length-slot (some s) h =
@@ -116,7 +116,7 @@ guid-whole : (g : List ℕ) → length g ≡ 16 → guidAt g 0 ≡ g
 unfolding guidAt
 guid-whole g h = rw (le-leb 16 (length g) (omega arith)) (take-all 16 g (omega arith))
 
-module _ (new : New) (t : length (new .type) ≡ 16) (o : length (new .owner) ≤ 68) (g : length (new .group) ≤ 68) (s : short (new .list) ≡ true) where
+module _ (new : New) (t : length (new .type) ≡ 16) (o : length (new .owner) ≤ 68) (g : length (new .group) ≤ 68) (s : shortIf (new .list) ≡ true) where
   pub block-laid : (x y z : ℕ) (l m₁ m₂ m₃ : List ℕ) → length l ≡ 1184 → x ≡ min 255 (new .parent) → y ≡ yes (new .container) → z ≡ yes (new .mark)
       → m₁ ≡ putAt 3 (new .type) (set (set (set l 0 x) 1 y) 2 z)
       → m₂ ≡ putAt 19 (idFor (new .owner) ++ idFor (new .group)) m₁
@@ -134,7 +134,7 @@ module _ (new : New) (t : length (new .type) ≡ 16) (o : length (new .owner) �
       ∙ rw (ex, ey, ez, guid-whole (new .type) t)
 
 -- the settings
-module _ (rule : ℕ) (m : Mapping) (o : MaybeList) (s : short o ≡ true) where
+module _ (rule : ℕ) (m : Mapping) (o : MaybeList) (s : shortIf o ≡ true) where
   pub settings-laid : (a : ℕ) (l l₁ l₂ l₃ l₄ l₅ : List ℕ) → a + 1044 ≤ length l
       → l₁ ≡ putAt (a + 1) (spell 4 (m .read)) (set l a rule)
       → l₂ ≡ putAt (a + 5) (spell 4 (m .write)) l₁

@@ -21,12 +21,12 @@ use Rattle.inherit.specs.Compute.{ordinary, ruleOk, sizeFor, fits, revFor, with
 use Rattle.inherit.proofs.Theorems.{passed-room}
 use Rattle.list.proofs.Parts.{length-render}
 use Rattle.list.specs.Entry.{access}
-use Rattle.tree.specs.Held.{New, blockFor, blockOk, parentOf, typeOf, ownList, yes as bit}
+use Rattle.tree.specs.Held.{New, blockFor, blockOk, parentByteIn, typeOf, ownList, yes as bit}
 use Rattle.tree.specs.Room.{ruleOf, defaultOf}
-use Rattle.tree.specs.Formed.{placed}
+use Rattle.tree.specs.Formed.{placedIn}
 use Rattle.tree.specs.Work.{askedIn, taken, computed}
 use Rattle.tree.proofs.Computed.{all-passed, computed-reads}
-use Rattle.tree.specs.Calls.{Edit, list, mark, owners, editAt, editBytes, short, nobody, Change, add, alter}
+use Rattle.tree.specs.Calls.{Edit, list, mark, owners, editAt, editBytes, nobody, ChangeGiven, add, alter}
 use Rattle.tree.specs.General.{bind, isSome, every}
 use Rattle.tree.proofs.History.{replay}
 use Rattle.tree.proofs.Replay.{Blocks, reads, fine, when, change, rules, fromRoot, gather, work}
@@ -34,7 +34,7 @@ use Rattle.tree.proofs.Blocks.{Shows, new-shows, new-good}
 use Rattle.tree.proofs.Edits.{edited, list-shows, mark-shows, owners-shows, edit-keeps, edit-good}
 use Rattle.tree.proofs.Paths.{Ordered, ordered-next, gather-at}
 use Rattle.tree.proofs.Turns.{Placed, placed-facts}
-use Rattle.tree.specs.Model.{Settings, Object, no-object, object, asked, fitting, listBelow, above, listFrom, listOf, listed, apply, objectsAfter, withList, withMark, withOwners}
+use Rattle.tree.specs.Model.{Settings, Object, no-object, object, asked, fitting, listBelow, above, listFrom, listOf, listed, apply, objectsAfter, withList, withMark, withOwners, shortIf}
 use Rattle.tree.proofs.NoRoom.{Earlier}
 use Rattle.tree.specs.Shown.{settingsAt, parentIn, objectIn, objectFor, alteration, changeMeant}
 
@@ -77,12 +77,12 @@ parent-is p (inr h) =
     let m : min 255 p ≡ p = omega arith in
     rw (m, ne-eqb p 255 (λ z. omega arith), ne-eqb p nobody (λ z. omega arith)) refl
 
-pub object-new : (new : New) → ordinary (new .owner) ≡ true → ordinary (new .group) ≡ true → short (new .list) ≡ true → (new .parent ≡ nobody) ⊎ (new .parent < 255)
+pub object-new : (new : New) → ordinary (new .owner) ≡ true → ordinary (new .group) ≡ true → shortIf (new .list) ≡ true → (new .parent ≡ nobody) ⊎ (new .parent < 255)
     → objectIn (blockFor new) ≡ objectFor new
 object-new new o g s p = object-shows (new-shows new o g s) ∙ rw (parent-is (new .parent) p, yes-is (new .container), yes-is (new .mark)) refl
 
 module _ (b : List ℕ) (n : length b ≡ 1184) where
-  pub object-list : (o : MaybeList) → short o ≡ true → objectIn (edited (list o) b) ≡ withList o (objectIn b)
+  pub object-list : (o : MaybeList) → shortIf o ≡ true → objectIn (edited (list o) b) ≡ withList o (objectIn b)
   object-list o h = object-shows (list-shows b n o h)
 
   pub object-mark : (m : Bool) → objectIn (edited (mark m) b) ≡ withMark m (objectIn b)
@@ -119,7 +119,7 @@ each-set P d i b f k x j h =
       | no e ↦ rw (getD-set-other d i j b [] e) (f j (rw length-set at h))
     ]
 
-good-more : (d : Blocks) (b : List ℕ) → Good d → blockOk b ≡ true → length b ≡ 1184 → (parentOf b ≡ 255) ⊎ (parentOf b < length d) → Good (d ++ (b ∷ []))
+good-more : (d : Blocks) (b : List ℕ) → Good d → blockOk b ≡ true → length b ≡ 1184 → (parentByteIn b ≡ 255) ⊎ (parentByteIn b < length d) → Good (d ++ (b ∷ []))
 good-more d b G o n p =
     record {
       sound = each-more (λ x. blockOk x ≡ true) d b (G .sound) o;
@@ -127,12 +127,12 @@ good-more d b G o n p =
       ordered = ordered-next d (G .ordered) b p;
     }
 
-good-set : (d : Blocks) (i : ℕ) (b : List ℕ) → Good d → i < length d → blockOk b ≡ true → length b ≡ 1184 → parentOf b ≡ parentOf (getD d i []) → Good (set d i b)
+good-set : (d : Blocks) (i : ℕ) (b : List ℕ) → Good d → i < length d → blockOk b ≡ true → length b ≡ 1184 → parentByteIn b ≡ parentByteIn (getD d i []) → Good (set d i b)
 good-set d i b G k o n p =
     record {
       sound = each-set (λ j x. blockOk x ≡ true) d i b (G .sound) k o;
       long = each-set (λ j x. length x ≡ 1184) d i b (G .long) k n;
-      ordered = each-set (λ j x. (parentOf x ≡ 255) ⊎ (parentOf x < j)) d i b (G .ordered) k (rw p (G .ordered i k));
+      ordered = each-set (λ j x. (parentByteIn x ≡ 255) ⊎ (parentByteIn x < j)) d i b (G .ordered) k (rw p (G .ordered i k));
     }
 
 when-some : {A : Type 0} (b : Bool) (x y : A) → when b x ≡ some y → (b ≡ true) × (x ≡ y)
@@ -148,7 +148,7 @@ object-in d i h = getD-map objectIn d i [] no-object h
 
 pub edit-long : (b : List ℕ) → length b ≡ 1184 → (e : Edit) → fine e ≡ true → length (edited e b) ≡ 1184
 unfolding fine
-edit-long b n (list o) h = list-shows b n o (both-true (reads o) (short o) h .1) .long
+edit-long b n (list o) h = list-shows b n o (both-true (reads o) (shortIf o) h .1) .long
 edit-long b n (mark m) h = mark-shows b n m .long
 edit-long b n (owners o g) h =
     let f = both-true (ordinary o) (ordinary g) h in
@@ -159,14 +159,14 @@ altered : (d : Blocks) (i : ℕ) (e : Edit) → Good d → i < length d → fine
     → objectsFrom (set d i (edited e (getD d i []))) ≡ apply (alteration i e) (objectsFrom d)
 unfolding apply alteration fine
 altered d i (list o) G h f =
-    set-map objectIn d i _ ∙ ap (set (objectsFrom d) i) (object-list (getD d i []) (G .long i h) o (both-true (reads o) (short o) f .1) ∙ ap (withList o) (sym (object-in d i h)))
+    set-map objectIn d i _ ∙ ap (set (objectsFrom d) i) (object-list (getD d i []) (G .long i h) o (both-true (reads o) (shortIf o) f .1) ∙ ap (withList o) (sym (object-in d i h)))
 altered d i (mark m) G h f = set-map objectIn d i _ ∙ ap (set (objectsFrom d) i) (object-mark (getD d i []) (G .long i h) m ∙ ap (withMark m) (sym (object-in d i h)))
 altered d i (owners x y) G h f =
     let t = both-true (ordinary x) (ordinary y) f in
     set-map objectIn d i _ ∙ ap (set (objectsFrom d) i) (object-owners (getD d i []) (G .long i h) x y (t .0) (t .1) ∙ ap (withOwners x y) (sym (object-in d i h)))
 
 -- where a new object stands
-stands : (d : Blocks) (p : ℕ) → length d ≤ 64 → placed nobody (λ j. getD d j []) (length d) p ≡ true
+stands : (d : Blocks) (p : ℕ) → length d ≤ 64 → placedIn nobody (λ j. getD d j []) (length d) p ≡ true
     → ((p ≡ nobody) ⊎ (p < 255)) × ((min 255 p ≡ 255) ⊎ (min 255 p < length d))
 stands d p h t = by (placed-facts nobody (λ j. getD d j []) (length d) p t)
   where
@@ -175,15 +175,15 @@ stands d p h t = by (placed-facts nobody (λ j. getD d j []) (length d) p t)
     by (inr q) = (inr (omega (arith, q .1 .0)), inr (omega (arith, q .1 .0)))
 
 -- what a change makes of own data reads as what the model makes of the objects
-pub change-like : (n : ℕ) → n ≤ 64 → (c : Change) (d e : Blocks) → Good d → change n c d ≡ some e → Good e × (objectsFrom e ≡ apply (changeMeant c) (objectsFrom d))
+pub change-like : (n : ℕ) → n ≤ 64 → (c : ChangeGiven) (d e : Blocks) → Good d → change n c d ≡ some e → Good e × (objectsFrom e ≡ apply (changeMeant c) (objectsFrom d))
 unfolding change changeMeant apply
 change-like n few (add new) d e G h =
     let w = when-some _ (d ++ (blockFor new ∷ [])) e h in
-    let t₁ = both-true (placed nobody (λ j. getD d j []) (length d) (new .parent)) _ (w .0) in
+    let t₁ = both-true (placedIn nobody (λ j. getD d j []) (length d) (new .parent)) _ (w .0) in
     let t₂ = both-true (ltb (length d) n) _ (t₁ .1) in
     let t₃ = both-true (reads (new .list)) _ (t₂ .1) in
     let t₄ = both-true (ordinary (new .owner)) _ (t₃ .1) in
-    let t₅ = both-true (ordinary (new .group)) (short (new .list)) (t₄ .1) in
+    let t₅ = both-true (ordinary (new .group)) (shortIf (new .list)) (t₄ .1) in
     let k : length d < n = ltb-true (length d) n (t₂ .0) in
     let s = stands d (new .parent) (omega arith) (t₁ .0) in
     let x = new-shows new (t₄ .0) (t₅ .0) (t₅ .1) in
@@ -207,7 +207,7 @@ unfolding bind
 bind-is none f y h = let z : _≡_ {A = ℕ} 0 1 = cc in absurd (omega arith)
 bind-is (some x) f y h = (x, (refl, h))
 
-pub replay-like : (n s : ℕ) (e : List ℕ) → n ≤ 64 → (cs : List Change) (d : Blocks) → replay (rules n e) s cs ≡ some d → Good d × (objectsFrom d ≡ objectsAfter (map changeMeant cs))
+pub replay-like : (n s : ℕ) (e : List ℕ) → n ≤ 64 → (cs : List ChangeGiven) (d : Blocks) → replay (rules n e) s cs ≡ some d → Good d × (objectsFrom d ≡ objectsAfter (map changeMeant cs))
 unfolding replay rules objectsAfter
 replay-like n s e few [] d h = let z : [] ≡ d = cc in rw (← z) (good-none, refl)
 replay-like n s e few (c ∷ cs) d h =
@@ -277,23 +277,23 @@ module _ (n s : ℕ) (e : List ℕ) (hr : ruleOk (ruleOf e) ≡ true) (hd : read
         → ((p : ℕ) → p < length d → fromRoot e d more p ≡ listFrom t (objectsFrom d) more p)
         → fromRoot e d (suc more) i ≡ listFrom t (objectsFrom d) (suc more) i
     unfolding fromRoot listFrom bind reads
-    from-step more i h before = rw (object-in d i h) (by (eqb (parentOf b) 255) refl)
+    from-step more i h before = rw (object-in d i h) (by (eqb (parentByteIn b) 255) refl)
       where
         b : List ℕ
         b = getD d i []
 
-        earlier : eqb (parentOf b) 255 ≡ false → (parentOf b ≡ 255) ⊎ (parentOf b < i) → parentOf b < i
+        earlier : eqb (parentByteIn b) 255 ≡ false → (parentByteIn b ≡ 255) ⊎ (parentByteIn b < i) → parentByteIn b < i
         earlier q (inl e) = absurd (eqb-false _ _ q e)
         earlier q (inr l) = l
 
-        by : (c : Bool) → eqb (parentOf b) 255 ≡ c
-            → bind (cond c (some none) (fromRoot e d more (parentOf b))) (λ p. computed e p b)
-            ≡ bind (above (cond c none (some (parentOf b))) (listFrom t (objectsFrom d) more)) (listBelow t (objectIn b))
+        by : (c : Bool) → eqb (parentByteIn b) 255 ≡ c
+            → bind (cond c (some none) (fromRoot e d more (parentByteIn b))) (λ p. computed e p b)
+            ≡ bind (above (cond c none (some (parentByteIn b))) (listFrom t (objectsFrom d) more)) (listBelow t (objectIn b))
         by true q = computed-like none b refl (G .sound i h)
         by false q =
-            let k : parentOf b < i = earlier q (G .ordered i h) in
-            rw (← before (parentOf b) (omega arith))
-            (bind-like (fromRoot e d more (parentOf b)) _ _ (λ p e. computed-like p b (from-reads d more (parentOf b) p e) (G .sound i h)))
+            let k : parentByteIn b < i = earlier q (G .ordered i h) in
+            rw (← before (parentByteIn b) (omega arith))
+            (bind-like (fromRoot e d more (parentByteIn b)) _ _ (λ p e. computed-like p b (from-reads d more (parentByteIn b) p e) (G .sound i h)))
 
     from-like : (more i : ℕ) → i < length d → fromRoot e d more i ≡ listFrom t (objectsFrom d) more i
     unfolding fromRoot listFrom
@@ -317,10 +317,10 @@ module _ (n s : ℕ) (e : List ℕ) (hr : ruleOk (ruleOf e) ≡ true) (hd : read
 pub earlier-in : (d : Blocks) → Good d → Earlier (objectsFrom d)
 earlier-in d G i h =
     let k : i < length d = rw (length-map objectIn d) at h in
-    rw (object-in d i k) (by (eqb (parentOf (getD d i [])) 255) refl (G .ordered i k))
+    rw (object-in d i k) (by (eqb (parentByteIn (getD d i [])) 255) refl (G .ordered i k))
   where
-    by : (b : Bool) → eqb (parentOf (getD d i [])) 255 ≡ b → (parentOf (getD d i []) ≡ 255) ⊎ (parentOf (getD d i []) < i)
-        → (cond b none (some (parentOf (getD d i []))) ≡ none) ⊎ ((p : ℕ) × ((cond b none (some (parentOf (getD d i []))) ≡ some p) × (p < i)))
+    by : (b : Bool) → eqb (parentByteIn (getD d i [])) 255 ≡ b → (parentByteIn (getD d i []) ≡ 255) ⊎ (parentByteIn (getD d i []) < i)
+        → (cond b none (some (parentByteIn (getD d i []))) ≡ none) ⊎ ((p : ℕ) × ((cond b none (some (parentByteIn (getD d i []))) ≡ some p) × (p < i)))
     by true e o = inl refl
     by false e (inl q) = absurd (eqb-false _ _ e q)
-    by false e (inr l) = inr (parentOf (getD d i []), (refl, l))
+    by false e (inr l) = inr (parentByteIn (getD d i []), (refl, l))

@@ -13,11 +13,12 @@ use Rattle.list.specs.Bytes.{putAt}
 use Rattle.list.proofs.Places.{split}
 use Rattle.inherit.specs.Asked.{MaybeList}
 use Rattle.inherit.specs.Compute.{ordinary}
+use Rattle.tree.specs.Model.{shortIf}
 use Rattle.tree.specs.General.{tab}
 use Rattle.tree.specs.Held.{New, blockFor}
-use Rattle.tree.specs.Room.{tagOf, numberOf, savedIn}
-use Rattle.tree.specs.Formed.{placed}
-use Rattle.tree.specs.Calls.{Edit, editAt, editBytes, short, nobody, add, alter}
+use Rattle.tree.specs.Room.{stepTag, stepObject, stepData}
+use Rattle.tree.specs.Formed.{placedIn}
+use Rattle.tree.specs.Calls.{Edit, editAt, editBytes, nobody, add, alter}
 use Rattle.tree.proofs.History.{edit, undo, settled, edited, undone, after}
 use Rattle.tree.proofs.Replay.{Undo, off, again, Blocks, reads, fine, change, keep, back, work, rules, undoIn}
 use Rattle.tree.proofs.Tab.{length-tab, getD-tab, tab-set, tab-ext, tab-last, tab-take}
@@ -42,8 +43,8 @@ less-tab n x f =
     tab-take [] (n - 1) n f (omega arith) ∙ tab-ext (n - 1) f (upd (n - 1) x f) (λ j h. sym (upd-other (n - 1) x f j (apart j (n - 1) h)))
 
 -- a place below own data that is given by number
-pub placed-tab : (k n p : ℕ) (f : ℕ → List ℕ) → placed k (λ j. getD (tab n f) j []) n p ≡ placed k f n p
-unfolding placed
+pub placed-tab : (k n p : ℕ) (f : ℕ → List ℕ) → placedIn k (λ j. getD (tab n f) j []) n p ≡ placedIn k f n p
+unfolding placedIn
 placed-tab k n p f =
     split n p
     (λ h. rw (le-ltb p n h) refl)
@@ -52,12 +53,12 @@ placed-tab k n p f =
 -- what an add asks
 abbrev pub Asked : ℕ → New → ℕ → (ℕ → List ℕ) → Bool
 Asked N new n f =
-    placed nobody f n (new .parent)
+    placedIn nobody f n (new .parent)
     && (ltb n N
     && (reads (new .list)
     && (ordinary (new .owner)
     && (ordinary (new .group)
-    && short (new .list)))))
+    && shortIf (new .list)))))
 
 module _ (N S : ℕ) (e : List ℕ) (n : ℕ) (f : ℕ → List ℕ) (ls : List MaybeList) (us : List Undo) where
   pub alter-after : (i : ℕ) (ed : Edit) → i < n → fine ed ≡ true
@@ -93,14 +94,14 @@ module _ (N S : ℕ) (e : List ℕ) (n : ℕ) (f : ℕ → List ℕ) (ls : List 
   unfolding after undone rules
   undo-by u vs d h g = rw (h, g) refl
 
-  pub undo-off : (u : List ℕ) (vs : List Undo) → us ≡ undoIn u ∷ vs → tagOf u ≡ 1
+  pub undo-off : (u : List ℕ) (vs : List Undo) → us ≡ undoIn u ∷ vs → stepTag u ≡ 1
       → after (rules N e) S (record { own = tab n f; lists = ls; kept = us }) undo
-      ≡ settled (rules N e) S (tab (n - 1) (upd (n - 1) (savedIn u) f)) vs (work e (tab (n - 1) (upd (n - 1) (savedIn u) f)))
+      ≡ settled (rules N e) S (tab (n - 1) (upd (n - 1) (stepData u) f)) vs (work e (tab (n - 1) (upd (n - 1) (stepData u) f)))
   unfolding undoIn back
-  undo-off u vs h t = undo-by u vs _ h (rw (t, length-tab n f) (less-tab n (savedIn u) f))
+  undo-off u vs h t = undo-by u vs _ h (rw (t, length-tab n f) (less-tab n (stepData u) f))
 
-  pub undo-again : (u : List ℕ) (vs : List Undo) → us ≡ undoIn u ∷ vs → tagOf u ≡ 2 → numberOf u < n
+  pub undo-again : (u : List ℕ) (vs : List Undo) → us ≡ undoIn u ∷ vs → stepTag u ≡ 2 → stepObject u < n
       → after (rules N e) S (record { own = tab n f; lists = ls; kept = us }) undo
-      ≡ settled (rules N e) S (tab n (upd (numberOf u) (savedIn u) f)) vs (work e (tab n (upd (numberOf u) (savedIn u) f)))
+      ≡ settled (rules N e) S (tab n (upd (stepObject u) (stepData u) f)) vs (work e (tab n (upd (stepObject u) (stepData u) f)))
   unfolding undoIn back
-  undo-again u vs h t l = undo-by u vs _ h (rw t (set-tab n (numberOf u) (savedIn u) f l))
+  undo-again u vs h t l = undo-by u vs _ h (rw t (set-tab n (stepObject u) (stepData u) f l))

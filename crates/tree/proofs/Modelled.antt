@@ -19,13 +19,14 @@ use Rattle.list.proofs.Places.{split, length-part, part-front}
 use Rattle.list.proofs.Tests.{both-true}
 use Rattle.inherit.specs.Asked.{MaybeList}
 use Rattle.inherit.specs.Compute.{ordinary, ruleOk, onReading as Values·onReading, readable as Values·readable}
+use Rattle.tree.specs.Model.{shortIf}
 use Rattle.tree.specs.declared.Answer.{Answer}
 use Rattle.tree.specs.declared.Answer.the-variants.{Done, Refused}
 use Rattle.tree.specs.General.{isSome, rest, bind, tab}
-use Rattle.tree.specs.Held.{New, held, isDone, slotOk, blockFor, kindOf}
-use Rattle.tree.specs.Room.{limit, depth, objects, kept, roomFor, settings, ruleOf, defaultOf, defaultSlot, ownAt, own, slot, area}
-use Rattle.tree.specs.Formed.{Head, settingsOk, placed, formed}
-use Rattle.tree.specs.Calls.{Outcome, refuse, Edit, list, mark, owners, onReading, readable, short, told, onObject, editAt, editBytes, tested, changed, finish, nobody, addTo, alterTo, undoTo, startOk, startTo, answerValues, bytesIf, copied, dataOf, listTo, ownTo, dataTo, countsTo, Change, add, alter}
+use Rattle.tree.specs.Held.{New, held, isDone, slotOk, blockFor, kindByte}
+use Rattle.tree.specs.Room.{objectLimit, stepLimit, objects, keptSteps, roomFor, settings, ruleOf, defaultOf, defaultSlot, ownAt, ownData, slot, area}
+use Rattle.tree.specs.Formed.{Head, settingsOk, placedIn, formed}
+use Rattle.tree.specs.Calls.{Outcome, refuse, Edit, list, mark, owners, onReadingTo, readableTo, toldAs, onObject, editAt, editBytes, tested, changed, changeEnds, nobody, addTo, alterTo, undoTo, startOk, startTo, answerValues, listBytes, copied, dataOf, listTo, ownTo, dataTo, countsTo, ChangeGiven, add, alter}
 use Rattle.tree.proofs.History.{Call, edit, undo, Past, settled, edited, after, remains, next, noted, unnoted, accepts, afresh}
 use Rattle.tree.proofs.Replay.{Blocks, Undo, reads, fine, when, change, keep, work, rules, shown, Tree}
 use Rattle.tree.proofs.Played.{callTo, accepted, played}
@@ -61,23 +62,23 @@ pub test-as : (b c : Bool) (k : ℕ) (r : List ℕ) (o : Outcome) (v : Values) �
 test-as b c k r o v e h = rw (← e) (need-as b k r o v h)
 
 module _ (which : ℕ) (r : List ℕ) (o : Outcome) (v : Values) where
-  reading-as : (x : Reading) → (isDone x ≡ true → said o ≡ v) → said (onReading x which r o) ≡ Values·onReading x which v
-  unfolding onReading Values·onReading
+  reading-as : (x : Reading) → (isDone x ≡ true → said o ≡ v) → said (onReadingTo x which r o) ≡ Values·onReading x which v
+  unfolding onReadingTo Values·onReading
   reading-as (Read l n) h = h refl
   reading-as (Unread k at) h = refl
 
-  pub readable-as : (l : MaybeList) → (reads l ≡ true → said o ≡ v) → said (readable l which r o) ≡ Values·readable l which v
-  unfolding readable Values·readable reads
+  pub readable-as : (l : MaybeList) → (reads l ≡ true → said o ≡ v) → said (readableTo l which r o) ≡ Values·readable l which v
+  unfolding readableTo Values·readable reads
   readable-as none h = h refl
   readable-as (some s) h = reading-as (checkOf access s) h
 
-pub short-is : (o : MaybeList) → short o ≡ Model.shortIf o
-unfolding short Model.shortIf
+pub short-is : (o : MaybeList) → shortIf o ≡ Model.shortIf o
+unfolding Model.shortIf
 short-is none = refl
 short-is (some s) = refl
 
-pub told-is : (o : MaybeList) → answerValues (told o) ≡ Model.told (some o)
-unfolding told Model.told
+pub told-is : (o : MaybeList) → answerValues (toldAs o) ≡ Model.told (some o)
+unfolding toldAs Model.told
 told-is none = refl
 told-is (some s) = refl
 
@@ -94,23 +95,23 @@ map-tab f (suc n) g = map-more f (tab n g) (g n) ∙ rw (map-tab f n g) refl
 
 pub objects-shown : (r : List ℕ) → objectsFrom (shown r .own) ≡ objectsIn r
 unfolding shown objectsIn
-objects-shown r = map-tab objectIn (objects r) (λ i. own i r)
+objects-shown r = map-tab objectIn (objects r) (λ i. ownData i r)
 
 pub shown-length : (r : List ℕ) → length (shown r .own) ≡ objects r
 unfolding shown
-shown-length r = length-tab (objects r) (λ i. own i r)
+shown-length r = length-tab (objects r) (λ i. ownData i r)
 
 pub objects-length : (r : List ℕ) → length (objectsIn r) ≡ objects r
 unfolding objectsIn
-objects-length r = length-tab (objects r) (λ i. objectIn (own i r))
+objects-length r = length-tab (objects r) (λ i. objectIn (ownData i r))
 
-pub object-at : (r : List ℕ) (i : ℕ) → i < objects r → Model.object (objectsIn r) i ≡ objectIn (own i r)
+pub object-at : (r : List ℕ) (i : ℕ) → i < objects r → Model.object (objectsIn r) i ≡ objectIn (ownData i r)
 unfolding objectsIn
-object-at r i h = getD-tab (objects r) (λ i. objectIn (own i r)) i Model.no-object h
+object-at r i h = getD-tab (objects r) (λ i. objectIn (ownData i r)) i Model.no-object h
 
 -- the place of a new object
-placed-is : (r : List ℕ) (p : ℕ) → objects r ≤ 64 → placed nobody (λ j. own j r) (objects r) p ≡ Model.placed (objectsIn r) (parentIn nobody p)
-unfolding placed Model.placed
+placed-is : (r : List ℕ) (p : ℕ) → objects r ≤ 64 → placedIn nobody (λ j. ownData j r) (objects r) p ≡ Model.placed (objectsIn r) (parentIn nobody p)
+unfolding placedIn Model.placed
 placed-is r p few = by (eqb p nobody) refl
   where
     same : (b : Bool) → cond b true false ≡ b
@@ -118,7 +119,7 @@ placed-is r p few = by (eqb p nobody) refl
     same false = refl
 
     by : (b : Bool) → eqb p nobody ≡ b
-        → cond (eqb (objects r) 0) b (ltb p (objects r) && eqb (kindOf (own p r)) 1) ≡ Model.placed (objectsIn r) (cond b none (some p))
+        → cond (eqb (objects r) 0) b (ltb p (objects r) && eqb (kindByte (ownData p r)) 1) ≡ Model.placed (objectsIn r) (cond b none (some p))
     by true e =
         let q = eqb-true p nobody e in
         let l : ltb p (objects r) ≡ false = le-ltb p (objects r) (omega arith) in
@@ -135,8 +136,8 @@ placed-is r p few = by (eqb p nobody) refl
         none-there true = refl
         none-there false = refl
 
-pub own-long : (r : List ℕ) → Head r → (i : ℕ) → i < objects r → length (own i r) ≡ 1184
-unfolding own
+pub own-long : (r : List ℕ) → Head r → (i : ℕ) → i < objects r → length (ownData i r) ≡ 1184
+unfolding ownData
 own-long r H i h = length-part (ownAt i) 1184 r (omega arith)
 
 -- own data of a well-formed room
@@ -144,10 +145,10 @@ pub good-shown : (r : List ℕ) → Formed r → Good (shown r .own)
 unfolding shown
 good-shown r F =
     record {
-      sound = λ i h. let k = rw (length-tab (objects r) (λ i. own i r)) at h in rw (getD-tab (objects r) (λ i. own i r) i [] k) (F .owned i k .0);
-      long = λ i h. let k = rw (length-tab (objects r) (λ i. own i r)) at h in rw (getD-tab (objects r) (λ i. own i r) i [] k) (own-long r (F .head) i k);
-      ordered = λ i h. let k = rw (length-tab (objects r) (λ i. own i r)) at h in
-          rw (getD-tab (objects r) (λ i. own i r) i [] k) (owned-ordered (objects r) (λ j. own j r) (F .owned) i k);
+      sound = λ i h. let k = rw (length-tab (objects r) (λ i. ownData i r)) at h in rw (getD-tab (objects r) (λ i. ownData i r) i [] k) (F .owned i k .0);
+      long = λ i h. let k = rw (length-tab (objects r) (λ i. ownData i r)) at h in rw (getD-tab (objects r) (λ i. ownData i r) i [] k) (own-long r (F .head) i k);
+      ordered = λ i h. let k = rw (length-tab (objects r) (λ i. ownData i r)) at h in
+          rw (getD-tab (objects r) (λ i. ownData i r) i [] k) (owned-ordered (objects r) (λ j. ownData j r) (F .owned) i k);
     }
 
 -- ---- the end of a change, in a well-formed room
@@ -169,11 +170,11 @@ module _ (r : List ℕ) (F : Formed r) where
   e-default = settings-facts (settings r) (F .settings-ok) .1
 
   pub works-like : (d : Blocks) → Good d → isSome (work (settings r) d) ≡ Model.listed t (objectsFrom d)
-  works-like d G = work-like (limit r) (depth r) (settings r) e-rule e-default d G
+  works-like d G = work-like (objectLimit r) (stepLimit r) (settings r) e-rule e-default d G
 
   pub lists-like : (d : Blocks) → Good d → (ls : List MaybeList) → work (settings r) d ≡ some ls → (i : ℕ) → i < length d
       → Model.listOf t (objectsFrom d) i ≡ some (getD ls i none)
-  lists-like d G ls h i k = list-like (limit r) (depth r) (settings r) e-rule e-default d G ls h i k
+  lists-like d G ls h i k = list-like (objectLimit r) (stepLimit r) (settings r) e-rule e-default d G ls h i k
 
   -- the model's end, by whether every list can be worked out
   outcome-none : (d : Blocks) (i : ℕ) → Good d → work (settings r) d ≡ none → Model.outcome t (objectsFrom d) i ≡ refused 8 0 0
@@ -181,11 +182,11 @@ module _ (r : List ℕ) (F : Formed r) where
   outcome-none d i G e = rw (← works-like d G, e) refl
 
   outcome-some : (d : Blocks) (i : ℕ) (ls : List MaybeList) → Good d → i < length d → work (settings r) d ≡ some ls
-      → Model.outcome t (objectsFrom d) i ≡ answerValues (told (getD ls i none))
+      → Model.outcome t (objectsFrom d) i ≡ answerValues (toldAs (getD ls i none))
   unfolding Model.outcome need isSome
   outcome-some d i ls G h e = rw (← works-like d G, e, lists-like d G ls e i h) (sym (told-is (getD ls i none)))
 
-  slot-front : (w : List ℕ) (i : ℕ) → length w ≡ roomFor (limit r) (depth r) → i < limit r → slot i (front w r) ≡ slot i w
+  slot-front : (w : List ℕ) (i : ℕ) → length w ≡ roomFor (objectLimit r) (stepLimit r) → i < objectLimit r → slot i (front w r) ≡ slot i w
   unfolding slot
   slot-front w i l h = part-front _ 1027 w _ (omega arith)
 
@@ -196,11 +197,11 @@ module _ (r : List ℕ) (F : Formed r) where
       let n : length d ≡ objects (front w r) = ap (λ (x : Tree). length (x .own)) e ∙ length-tab (objects (front w r)) _ in
       ap (λ (x : Tree). getD (x .lists) i none) e ∙ getD-tab (objects (front w r)) (λ j. held (slot j (front w r))) i none (omega arith)
 
-  finish-as : (i : ℕ) (o : Option (List ℕ)) (d : Blocks) (us : List Undo) (W : Option (List MaybeList)) → Good d → i < length d → i < limit r
-      → ((w : List ℕ) → o ≡ some w → length w ≡ roomFor (limit r) (depth r)) → work (settings r) d ≡ W
-      → settled (rules (limit r) (settings r)) (depth r) d us W ≡ when (accepted (finish i r o .answer)) (shown (finish i r o .bytes))
-      → said (finish i r o) ≡ Model.outcome t (objectsFrom d) i
-  unfolding finish settled
+  finish-as : (i : ℕ) (o : Option (List ℕ)) (d : Blocks) (us : List Undo) (W : Option (List MaybeList)) → Good d → i < length d → i < objectLimit r
+      → ((w : List ℕ) → o ≡ some w → length w ≡ roomFor (objectLimit r) (stepLimit r)) → work (settings r) d ≡ W
+      → settled (rules (objectLimit r) (settings r)) (stepLimit r) d us W ≡ when (accepted (changeEnds i r o .answer)) (shown (changeEnds i r o .bytes))
+      → said (changeEnds i r o) ≡ Model.outcome t (objectsFrom d) i
+  unfolding changeEnds settled
   finish-as i none d us none G h k l e q = sym (outcome-none d i G e)
   finish-as i none d us (some ls) G h k l e q = let z : _≡_ {A = ℕ} 0 1 = cc in absurd (omega arith)
   finish-as i (some w) d us none G h k l e q =
@@ -210,45 +211,45 @@ module _ (r : List ℕ) (F : Formed r) where
       let a = rw (accepted-told (held (slot i w))) at q in
       let s : record { own = d; lists = ls; kept = us } ≡ shown (front w r) = cc in
       let x : getD ls i none ≡ held (slot i w) = lists-at w d us ls i s h ∙ ap held (slot-front w i (l w refl) k) in
-      ap (λ (y : MaybeList). answerValues (told y)) (sym x) ∙ sym (outcome-some d i ls G h e)
+      ap (λ (y : MaybeList). answerValues (toldAs y)) (sym x) ∙ sym (outcome-some d i ls G h e)
 
-  machine-is : (c : Change) (d : Blocks) → change (limit r) c (shown r .own) ≡ some d
-      → after (rules (limit r) (settings r)) (depth r) (shown r) (edit c)
-      ≡ settled (rules (limit r) (settings r)) (depth r) d (take (depth r) (keep c (shown r .own) ∷ shown r .kept)) (work (settings r) d)
+  machine-is : (c : ChangeGiven) (d : Blocks) → change (objectLimit r) c (shown r .own) ≡ some d
+      → after (rules (objectLimit r) (settings r)) (stepLimit r) (shown r) (edit c)
+      ≡ settled (rules (objectLimit r) (settings r)) (stepLimit r) d (take (stepLimit r) (keep c (shown r .own) ∷ shown r .kept)) (work (settings r) d)
   unfolding after edited rules
   machine-is c d e = rw e refl
 
   -- a change whose tests were passed
-  go-as : (c : Change) (d : Blocks) (i : ℕ) (o : Option (List ℕ)) → change (limit r) c (shown r .own) ≡ some d → callTo (edit c) r ≡ finish i r o
-      → i < length d → i < limit r → ((w : List ℕ) → o ≡ some w → length w ≡ roomFor (limit r) (depth r))
-      → said (finish i r o) ≡ Model.outcome t (Model.apply (changeMeant c) (objectsIn r)) i
+  go-as : (c : ChangeGiven) (d : Blocks) (i : ℕ) (o : Option (List ℕ)) → change (objectLimit r) c (shown r .own) ≡ some d → callTo (edit c) r ≡ changeEnds i r o
+      → i < length d → i < objectLimit r → ((w : List ℕ) → o ≡ some w → length w ≡ roomFor (objectLimit r) (stepLimit r))
+      → said (changeEnds i r o) ≡ Model.outcome t (Model.apply (changeMeant c) (objectsIn r)) i
   go-as c d i o e q h k l =
-      let us = take (depth r) (keep c (shown r .own) ∷ shown r .kept) in
+      let us = take (stepLimit r) (keep c (shown r .own) ∷ shown r .kept) in
       let T = sym (machine-is c d e) ∙ call-ends r (facts-formed r F) (edit c) .told in
-      let T₁ = subst (λ (x : Outcome). settled (rules (limit r) (settings r)) (depth r) d us (work (settings r) d)
+      let T₁ = subst (λ (x : Outcome). settled (rules (objectLimit r) (settings r)) (stepLimit r) d us (work (settings r) d)
       ≡ when (accepted (x .answer)) (shown (x .bytes))) q T in
-      let L = change-like (limit r) (F .head .limit-64) c (shown r .own) d (good-shown r F) e in
+      let L = change-like (objectLimit r) (F .head .limit-64) c (shown r .own) d (good-shown r F) e in
       finish-as i o d us (work (settings r) d) (L .0) h k l refl T₁
       ∙ ap (λ (os : List Model.Object). Model.outcome t os i) (L .1 ∙ ap (Model.apply (changeMeant c)) (objects-shown r))
 
   -- ---- an alteration
 
-  alter-is : (i : ℕ) (e : Edit) → i < objects r → fine e ≡ true → callTo (edit (alter i e)) r ≡ finish i r (changed 2 i (editAt e) (editBytes e) (objects r) (area r))
+  alter-is : (i : ℕ) (e : Edit) → i < objects r → fine e ≡ true → callTo (edit (alter i e)) r ≡ changeEnds i r (changed 2 i (editAt e) (editBytes e) (objects r) (area r))
   unfolding callTo alterTo onObject
   alter-is i e h f =
-      let go : Outcome = finish i r (changed 2 i (editAt e) (editBytes e) (objects r) (area r)) in
+      let go : Outcome = changeEnds i r (changed 2 i (editAt e) (editBytes e) (objects r) (area r)) in
       passed-on (formed r && (ltb i (objects r) && fine e))
       (then r _ _ go (formed r) (ltb i (objects r) && fine e) (need-first (formed r) 13 r _)
       (then r _ _ go (ltb i (objects r)) (fine e) (need-first (ltb i (objects r)) 9 r _) (tested-first e r go)))
       (rw (facts-formed r F, lt-ltb i (objects r) h) f)
 
   alter-change : (i : ℕ) (e : Edit) → i < objects r → fine e ≡ true
-      → change (limit r) (alter i e) (shown r .own) ≡ some (set (shown r .own) i (putAt (editAt e) (editBytes e) (getD (shown r .own) i [])))
+      → change (objectLimit r) (alter i e) (shown r .own) ≡ some (set (shown r .own) i (putAt (editAt e) (editBytes e) (getD (shown r .own) i [])))
   unfolding change
   alter-change i e h f = rw (lt-ltb i (length (shown r .own)) (omega (arith, shown-length r)), f) refl
 
   alter-go : (i : ℕ) (e : Edit) → i < objects r → fine e ≡ true
-      → said (finish i r (changed 2 i (editAt e) (editBytes e) (objects r) (area r))) ≡ Model.outcome t (Model.apply (alteration i e) (objectsIn r)) i
+      → said (changeEnds i r (changed 2 i (editAt e) (editBytes e) (objects r) (area r))) ≡ Model.outcome t (Model.apply (alteration i e) (objectsIn r)) i
   unfolding changeMeant
   alter-go i e h f =
       let H : Head r = F .head in
@@ -266,7 +267,7 @@ module _ (r : List ℕ) (F : Formed r) where
       ∙ rw (objects-length r, ← short-is o)
       (need-as (ltb i (objects r)) 9 r _ _ (λ h.
       readable-as 2 r _ _ o (λ g.
-      need-as (short o) 8 r _ _ (λ f. alter-go i (list o) (ltb-true i (objects r) h) (rw (g, f) refl)))))
+      need-as (shortIf o) 8 r _ _ (λ f. alter-go i (list o) (ltb-true i (objects r) h) (rw (g, f) refl)))))
   alter-as i (mark m) =
       ap said (need-yes 13 r _ (facts-formed r F))
       ∙ rw (objects-length r)
@@ -283,43 +284,43 @@ module _ (r : List ℕ) (F : Formed r) where
   -- what it asks
   asks : New → Bool
   asks new =
-      placed nobody (λ j. own j r) (objects r) (new .parent)
-      && (ltb (objects r) (limit r)
+      placedIn nobody (λ j. ownData j r) (objects r) (new .parent)
+      && (ltb (objects r) (objectLimit r)
       && (reads (new .list)
       && (ordinary (new .owner)
       && (ordinary (new .group)
-      && short (new .list)))))
+      && shortIf (new .list)))))
 
-  add-is : (new : New) → asks new ≡ true → callTo (edit (add new)) r ≡ finish (objects r) r (changed 1 (objects r) 0 (blockFor new) (objects r + 1) (area r))
+  add-is : (new : New) → asks new ≡ true → callTo (edit (add new)) r ≡ changeEnds (objects r) r (changed 1 (objects r) 0 (blockFor new) (objects r + 1) (area r))
   unfolding callTo addTo asks
   add-is new ask =
-      let go : Outcome = finish (objects r) r (changed 1 (objects r) 0 (blockFor new) (objects r + 1) (area r)) in
-      let at = placed nobody (λ j. own j r) (objects r) (new .parent) in
+      let go : Outcome = changeEnds (objects r) r (changed 1 (objects r) 0 (blockFor new) (objects r + 1) (area r)) in
+      let at = placedIn nobody (λ j. ownData j r) (objects r) (new .parent) in
       passed-on (formed r && asks new)
       (then r _ _ go (formed r) _ (need-first (formed r) 13 r _)
       (then r _ _ go at _ (need-first at 9 r _)
-      (then r _ _ go (ltb (objects r) (limit r)) _ (need-first (ltb (objects r) (limit r)) 10 r _)
+      (then r _ _ go (ltb (objects r) (objectLimit r)) _ (need-first (ltb (objects r) (objectLimit r)) 10 r _)
       (then r _ _ go (reads (new .list)) _ (reads-first (new .list) 2 r _)
       (then r _ _ go (ordinary (new .owner)) _ (need-first (ordinary (new .owner)) 6 r _)
-      (then r _ _ go (ordinary (new .group)) (short (new .list)) (need-first (ordinary (new .group)) 6 r _) (need-first (short (new .list)) 8 r go)))))))
+      (then r _ _ go (ordinary (new .group)) (shortIf (new .list)) (need-first (ordinary (new .group)) 6 r _) (need-first (shortIf (new .list)) 8 r go)))))))
       (rw (facts-formed r F) ask)
 
-  add-change : (new : New) → asks new ≡ true → change (limit r) (add new) (shown r .own) ≡ some (shown r .own ++ (blockFor new ∷ []))
+  add-change : (new : New) → asks new ≡ true → change (objectLimit r) (add new) (shown r .own) ≡ some (shown r .own ++ (blockFor new ∷ []))
   unfolding change shown asks
-  add-change new ask = rw (length-tab (objects r) (λ i. own i r), placed-tab nobody (objects r) (new .parent) (λ j. own j r), ask) refl
+  add-change new ask = rw (length-tab (objects r) (λ i. ownData i r), placed-tab nobody (objects r) (new .parent) (λ j. ownData j r), ask) refl
 
   add-go : (new : New) → asks new ≡ true
-      → said (finish (objects r) r (changed 1 (objects r) 0 (blockFor new) (objects r + 1) (area r)))
+      → said (changeEnds (objects r) r (changed 1 (objects r) 0 (blockFor new) (objects r + 1) (area r)))
       ≡ Model.outcome t (Model.apply (Model.add (objectFor new)) (objectsIn r)) (objects r)
   unfolding changeMeant asks
   add-go new ask =
       let H : Head r = F .head in
-      let t₁ = both-true (placed nobody (λ j. own j r) (objects r) (new .parent)) _ ask in
-      let t₂ = both-true (ltb (objects r) (limit r)) _ (t₁ .1) in
+      let t₁ = both-true (placedIn nobody (λ j. ownData j r) (objects r) (new .parent)) _ ask in
+      let t₂ = both-true (ltb (objects r) (objectLimit r)) _ (t₁ .1) in
       let t₃ = both-true (reads (new .list)) _ (t₂ .1) in
       let t₄ = both-true (ordinary (new .owner)) _ (t₃ .1) in
-      let t₅ = both-true (ordinary (new .group)) (short (new .list)) (t₄ .1) in
-      let k : objects r < limit r = ltb-true (objects r) (limit r) (t₂ .0) in
+      let t₅ = both-true (ordinary (new .group)) (shortIf (new .list)) (t₄ .1) in
+      let k : objects r < objectLimit r = ltb-true (objects r) (objectLimit r) (t₂ .0) in
       let a = area-byte r 0 (omega arith) in
       let x = new-shows new (t₄ .0) (t₅ .0) (t₅ .1) in
       go-as (add new) _ (objects r) _ (add-change new ask) (add-is new ask)
@@ -333,15 +334,15 @@ module _ (r : List ℕ) (F : Formed r) where
       let few : objects r ≤ 64 = omega (arith, F .head .within, F .head .limit-64) in
       ap said (need-yes 13 r _ (facts-formed r F))
       ∙ rw (objects-length r)
-      (test-as (placed nobody (λ j. own j r) (objects r) (new .parent)) _ 9 r _ _ (placed-is r (new .parent) few) (λ h₁.
-      need-as (ltb (objects r) (limit r)) 10 r _ _ (λ h₂.
+      (test-as (placedIn nobody (λ j. ownData j r) (objects r) (new .parent)) _ 9 r _ _ (placed-is r (new .parent) few) (λ h₁.
+      need-as (ltb (objects r) (objectLimit r)) 10 r _ _ (λ h₂.
       readable-as 2 r _ _ (new .list) (λ h₃.
       need-as (ordinary (new .owner)) 6 r _ _ (λ h₄.
       need-as (ordinary (new .group)) 6 r _ _ (λ h₅.
-      test-as (short (new .list)) _ 8 r _ _ (short-is (new .list)) (λ h₆. add-go new (rw (h₁, h₂, h₃, h₄, h₅, h₆) refl))))))))
+      test-as (shortIf (new .list)) _ 8 r _ _ (short-is (new .list)) (λ h₆. add-go new (rw (h₁, h₂, h₃, h₄, h₅, h₆) refl))))))))
 
   -- a change in any well-formed room answers what the model answers for the objects that the room shows
-  pub change-as : (c : Change) → said (changeWith c r) ≡ Model.changeAnswer t (objectsIn r) (changeMeant c)
+  pub change-as : (c : ChangeGiven) → said (changeWith c r) ≡ Model.changeAnswer t (objectsIn r) (changeMeant c)
   unfolding changeWith changeMeant
   change-as (add new) = add-as new
   change-as (alter i e) = alter-as i e

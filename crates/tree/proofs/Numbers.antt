@@ -16,7 +16,7 @@ use Rattle.list.proofs.Answers.{ListNumber, list-number}
 use Rattle.inherit.specs.Asked.{MaybeList}
 use Rattle.tree.specs.declared.Answer.{Answer}
 use Rattle.tree.specs.declared.Answer.the-variants.{Done, Refused}
-use Rattle.tree.specs.Calls.{Outcome, refuse, Edit, list, mark, owners, onReading, readable, told, onObject, tested, finish, finishUndo, addTo, alterTo, undoTo, startTo, answerValues, Change, add, alter}
+use Rattle.tree.specs.Calls.{Outcome, refuse, Edit, list, mark, owners, onReadingTo, readableTo, toldAs, onObject, tested, changeEnds, undoEnds, addTo, alterTo, undoTo, startTo, answerValues, ChangeGiven, add, alter}
 use Rattle.tree.proofs.Played.{accepted}
 use Rattle.tree.specs.Shown.{Begin, startWith, changeWith}
 
@@ -34,28 +34,28 @@ numbered-need true k r o n h = h
 numbered-need false k r o n h = n
 
 module _ (which : ℕ) (r : List ℕ) (o : Outcome) (h : Numbered (o .answer)) where
-  numbered-reading : (x : Reading) → ListNumber x → Numbered (onReading x which r o .answer)
-  unfolding onReading
+  numbered-reading : (x : Reading) → ListNumber x → Numbered (onReadingTo x which r o .answer)
+  unfolding onReadingTo
   numbered-reading (Read l n) k = h
   numbered-reading (Unread j at) k = λ z. omega (arith, k .0)
 
-  numbered-readable : (l : MaybeList) → Numbered (readable l which r o .answer)
-  unfolding readable
+  numbered-readable : (l : MaybeList) → Numbered (readableTo l which r o .answer)
+  unfolding readableTo
   numbered-readable none = h
   numbered-readable (some s) = numbered-reading (checkOf access s) (list-number access s)
 
-numbered-told : (o : MaybeList) → Numbered (told o)
-unfolding told
+numbered-told : (o : MaybeList) → Numbered (toldAs o)
+unfolding toldAs
 numbered-told none = tt
 numbered-told (some s) = tt
 
-numbered-finish : (i : ℕ) (r : List ℕ) (o : Option (List ℕ)) → Numbered (finish i r o .answer)
-unfolding finish
+numbered-finish : (i : ℕ) (r : List ℕ) (o : Option (List ℕ)) → Numbered (changeEnds i r o .answer)
+unfolding changeEnds
 numbered-finish i r none = λ z. omega arith
 numbered-finish i r (some w) = numbered-told _
 
-numbered-undone : (r : List ℕ) (o : Option (List ℕ)) → Numbered (finishUndo r o .answer)
-unfolding finishUndo
+numbered-undone : (r : List ℕ) (o : Option (List ℕ)) → Numbered (undoEnds r o .answer)
+unfolding undoEnds
 numbered-undone r none = λ z. omega arith
 numbered-undone r (some w) = tt
 
@@ -65,7 +65,7 @@ numbered-tested (list l) r o h = numbered-readable 2 r _ (numbered-need _ 8 r o 
 numbered-tested (mark m) r o h = h
 numbered-tested (owners x y) r o h = numbered-need _ 6 r _ (λ z. omega arith) (numbered-need _ 6 r o (λ z. omega arith) h)
 
-pub change-numbered : (c : Change) (r : List ℕ) → Numbered (changeWith c r .answer)
+pub change-numbered : (c : ChangeGiven) (r : List ℕ) → Numbered (changeWith c r .answer)
 unfolding changeWith addTo alterTo onObject
 change-numbered (add new) r =
     numbered-need _ 13 r _ (λ z. omega arith)

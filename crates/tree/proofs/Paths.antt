@@ -13,13 +13,13 @@ use borrow.Author.Tests.{eqb-true, eqb-false, lt-ltb, le-ltb}
 use Rattle.list.proofs.Places.{split}
 use Rattle.inherit.specs.Asked.{MaybeList}
 use Rattle.tree.specs.General.{bind}
-use Rattle.tree.specs.Held.{parentOf}
+use Rattle.tree.specs.Held.{parentByteIn}
 use Rattle.tree.specs.Work.{computed}
 use Rattle.tree.proofs.Replay.{Blocks, fromRoot, gather, work}
 
 -- the list of the parent that b names, among the lists so far; absent where it names none of them
 unfoldable pub parentList : List MaybeList → List ℕ → MaybeList
-parentList ls b = cond (ltb (parentOf b) (length ls)) (getD ls (parentOf b) none) none
+parentList ls b = cond (ltb (parentByteIn b) (length ls)) (getD ls (parentByteIn b) none) none
 
 -- one list more
 abbrev pub nextList : List ℕ → List ℕ → List MaybeList → Option (List MaybeList)
@@ -32,7 +32,7 @@ inOrder e d (suc n) = bind (inOrder e d n) (nextList e (getD d n []))
 
 -- each object has no parent or an earlier one
 abbrev pub Ordered : Blocks → Type 0
-Ordered d = (i : ℕ) → i < length d → (parentOf (getD d i []) ≡ 255) ⊎ (parentOf (getD d i []) < i)
+Ordered d = (i : ℕ) → i < length d → (parentByteIn (getD d i []) ≡ 255) ⊎ (parentByteIn (getD d i []) < i)
 
 -- ---- laws of bind and gather
 
@@ -89,10 +89,10 @@ cond-same false x y z h = h refl
 
 module _ (e : List ℕ) (d : Blocks) (ordered : Ordered d) where
   -- a parent that is named stands earlier
-  earlier : (i : ℕ) → i < length d → eqb (parentOf (getD d i [])) 255 ≡ false → parentOf (getD d i []) < i
+  earlier : (i : ℕ) → i < length d → eqb (parentByteIn (getD d i [])) 255 ≡ false → parentByteIn (getD d i []) < i
   earlier i h t = by (ordered i h)
     where
-      by : (parentOf (getD d i []) ≡ 255) ⊎ (parentOf (getD d i []) < i) → parentOf (getD d i []) < i
+      by : (parentByteIn (getD d i []) ≡ 255) ⊎ (parentByteIn (getD d i []) < i) → parentByteIn (getD d i []) < i
       by (inl q) = absurd (eqb-false _ _ t q)
       by (inr q) = q
 
@@ -103,8 +103,8 @@ module _ (e : List ℕ) (d : Blocks) (ordered : Ordered d) where
   from-enough (suc f) zero i h k m = absurd (omega arith)
   from-enough (suc f) (suc g) i h k m =
       ap (λ (o : Option MaybeList). bind o (λ p. computed e p (getD d i [])))
-      (cond-same (eqb (parentOf (getD d i [])) 255) _ _ _
-      (λ t. let q = earlier i h t in from-enough f g (parentOf (getD d i [])) (omega arith) (omega arith) (omega arith)))
+      (cond-same (eqb (parentByteIn (getD d i [])) 255) _ _ _
+      (λ t. let q = earlier i h t in from-enough f g (parentByteIn (getD d i [])) (omega arith) (omega arith) (omega arith)))
 
   module _ (few : length d ≤ 64) where
     -- object n from the root, where the lists of those before it are there: from its parent's among them
@@ -112,16 +112,16 @@ module _ (e : List ℕ) (d : Blocks) (ordered : Ordered d) where
         → fromRoot e d f n ≡ computed e (parentList ls (getD d n [])) (getD d n [])
     unfolding fromRoot parentList bind
     from-lists zero n ls h k q = absurd (omega arith)
-    from-lists (suc f) n ls h k q = by (eqb (parentOf (getD d n [])) 255) refl
+    from-lists (suc f) n ls h k q = by (eqb (parentByteIn (getD d n [])) 255) refl
       where
-        by : (t : Bool) → eqb (parentOf (getD d n [])) 255 ≡ t → fromRoot e d (suc f) n ≡ computed e (parentList ls (getD d n [])) (getD d n [])
+        by : (t : Bool) → eqb (parentByteIn (getD d n [])) 255 ≡ t → fromRoot e d (suc f) n ≡ computed e (parentList ls (getD d n [])) (getD d n [])
         by true t =
-            let p = parentOf (getD d n []) in
+            let p = parentByteIn (getD d n []) in
             let l = gather-length n (fromRoot e d (suc f)) ls q in
             let u : ltb p (length ls) ≡ false = le-ltb p (length ls) (omega (arith, eqb-true p 255 t)) in
             rw (t, u)
         by false t =
-            let p = parentOf (getD d n []) in
+            let p = parentByteIn (getD d n []) in
             let l = gather-length n (fromRoot e d (suc f)) ls q in
             let m = earlier n k t in
             let u : ltb p (length ls) ≡ true = lt-ltb p (length ls) (omega arith) in
@@ -149,7 +149,7 @@ unfolding inOrder
 in-order-same e d c zero h = refl
 in-order-same e d c (suc n) h = rw (in-order-same e d c n (λ i k. h i (omega arith)), h n (omega arith))
 
-module _ (d : Blocks) (ordered : Ordered d) (b : List ℕ) (stands : (parentOf b ≡ 255) ⊎ (parentOf b < length d)) where
+module _ (d : Blocks) (ordered : Ordered d) (b : List ℕ) (stands : (parentByteIn b ≡ 255) ⊎ (parentByteIn b < length d)) where
   pub ordered-next : Ordered (d ++ (b ∷ []))
   ordered-next i h =
       split (length d) i

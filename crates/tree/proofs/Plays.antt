@@ -20,13 +20,14 @@ use Rattle.list.proofs.Places.{split, length-part, put-whole}
 use Rattle.list.proofs.Tests.{both-true}
 use Rattle.inherit.specs.Asked.{MaybeList}
 use Rattle.inherit.specs.Compute.{ordinary}
+use Rattle.tree.specs.Model.{shortIf}
 use Rattle.tree.specs.General.{tab}
 use Rattle.tree.specs.Held.{New, held, isDone, blockFor}
-use Rattle.tree.specs.Room.{limit, depth, objects, kept, settings, own, slot, step, tagOf, numberOf, savedIn, area}
-use Rattle.tree.specs.Formed.{Head, placed, stepsOk, formed}
+use Rattle.tree.specs.Room.{objectLimit, stepLimit, objects, keptSteps, settings, ownData, slot, step, stepTag, stepObject, stepData, area}
+use Rattle.tree.specs.Formed.{Head, placedIn, stepsOk, formed}
 use Rattle.list.specs.Order.{need}
-use Rattle.tree.specs.Calls.{Edit, list, mark, owners, Outcome, refuse, onReading, readable, short, onObject, tested, told as told-in, Change, add, alter}
-use Rattle.tree.specs.Calls.{editAt, editBytes, changed, latest, left, undone, finish, finishUndo, nobody, addTo, alterTo, undoTo}
+use Rattle.tree.specs.Calls.{Edit, list, mark, owners, Outcome, refuse, onReadingTo, readableTo, onObject, tested, toldAs as told-in, ChangeGiven, add, alter}
+use Rattle.tree.specs.Calls.{editAt, editBytes, changed, latest, standingAfter, stepTakenBack, changeEnds, undoEnds, nobody, addTo, alterTo, undoTo}
 use Rattle.tree.proofs.History.{Call, edit, undo, settled, after}
 use Rattle.tree.proofs.Replay.{Undo, off, again, Tree, reads, fine, when, work, rules, undoIn, shown}
 use Rattle.tree.proofs.Played.{callTo, accepted}
@@ -45,8 +46,8 @@ use Rattle.tree.proofs.Machine.{Asked, alter-after, alter-none, add-aft
 -- how a call on r ends, where the machine gives m
 pub record Ends (r : List ℕ) (o : Outcome) (m : Option Tree) : Type 0 where
   pub well : Formed (o .bytes)
-  pub limits : limit (o .bytes) ≡ limit r
-  pub depths : depth (o .bytes) ≡ depth r
+  pub limits : objectLimit (o .bytes) ≡ objectLimit r
+  pub depths : stepLimit (o .bytes) ≡ stepLimit r
   pub same-settings : settings (o .bytes) ≡ settings r
   pub size : length (o .bytes) ≡ length r
   pub told : m ≡ when (accepted (o .answer)) (shown (o .bytes))
@@ -74,16 +75,16 @@ refuses-ends r F o m x e = subst (λ (y : Outcome). Ends r y m) (sym (x .is)) (r
 
 -- a list that is given: what follows, or a refusal
 reading-by : (s : List ℕ) (which : ℕ) (r : List ℕ) (rest : Outcome) (x : Reading) → checkOf access s ≡ x → (b : Bool) → isDone x ≡ b
-    → cond b (onReading x which r rest ≡ rest) (Refuses r (onReading x which r rest))
-unfolding onReading
+    → cond b (onReadingTo x which r rest ≡ rest) (Refuses r (onReadingTo x which r rest))
+unfolding onReadingTo
 reading-by s which r rest (Read l n) e true h = refl
 reading-by s which r rest (Read l n) e false h = let z : _≡_ {A = ℕ} 0 1 = cc in absurd (omega arith)
 reading-by s which r rest (Unread k at) e true h = let z : _≡_ {A = ℕ} 0 1 = cc in absurd (omega arith)
 reading-by s which r rest (Unread k at) e false h = record { number = k; list = which; offset = at; is = refl }
 
 read-by : (o : MaybeList) (which : ℕ) (r : List ℕ) (rest : Outcome) (b : Bool) → reads o ≡ b
-    → cond b (readable o which r rest ≡ rest) (Refuses r (readable o which r rest))
-unfolding reads readable
+    → cond b (readableTo o which r rest ≡ rest) (Refuses r (readableTo o which r rest))
+unfolding reads readableTo
 read-by none which r rest true h = refl
 read-by none which r rest false h = let z : _≡_ {A = ℕ} 0 1 = cc in absurd (omega arith)
 read-by (some s) which r rest b h = reading-by s which r rest (checkOf access s) refl b h
@@ -108,8 +109,8 @@ pub then : (r : List ℕ) (o p rest : Outcome) (a b : Bool) → Passes r o p a �
 then r o p rest true b (on e) q = subst (λ (x : Outcome). Passes r x rest b) (sym e) q
 then r o p rest false b (stop x) q = stop x
 
-pub reads-first : (o : MaybeList) (which : ℕ) (r : List ℕ) (rest : Outcome) → Passes r (readable o which r rest) rest (reads o)
-reads-first o which r rest = as-passes r (readable o which r rest) rest (reads o) (read-by o which r rest (reads o) refl)
+pub reads-first : (o : MaybeList) (which : ℕ) (r : List ℕ) (rest : Outcome) → Passes r (readableTo o which r rest) rest (reads o)
+reads-first o which r rest = as-passes r (readableTo o which r rest) rest (reads o) (read-by o which r rest (reads o) refl)
 
 pub need-first : (t : Bool) (k : ℕ) (r : List ℕ) (rest : Outcome) → Passes r (need t (refuse k 0 0 r) rest) rest t
 need-first t k r rest = as-passes r (need t (refuse k 0 0 r) rest) rest t (need-by t k r rest t refl)
@@ -117,14 +118,14 @@ need-first t k r rest = as-passes r (need t (refuse k 0 0 r) rest) rest t (need-
 -- what an alteration is given
 pub tested-first : (e : Edit) (r : List ℕ) (rest : Outcome) → Passes r (tested e r rest) rest (fine e)
 unfolding tested fine
-tested-first (list o) r rest = then r _ _ rest (reads o) (short o) (reads-first o 2 r (need (short o) (refuse 8 0 0 r) rest)) (need-first (short o) 8 r rest)
+tested-first (list o) r rest = then r _ _ rest (reads o) (shortIf o) (reads-first o 2 r (need (shortIf o) (refuse 8 0 0 r) rest)) (need-first (shortIf o) 8 r rest)
 tested-first (mark m) r rest = on refl
 tested-first (owners o g) r rest =
     then r _ _ rest (ordinary o) (ordinary g) (need-first (ordinary o) 6 r (need (ordinary g) (refuse 6 0 0 r) rest)) (need-first (ordinary g) 6 r rest)
 
 -- ---- what a step holds
 
-saved-is : (tag i : ℕ) (b : List ℕ) → length b ≡ 1184 → savedIn (tag ∷ i ∷ b) ≡ b
+saved-is : (tag i : ℕ) (b : List ℕ) → length b ≡ 1184 → stepData (tag ∷ i ∷ b) ≡ b
 unfolding part
 saved-is tag i b l = take-all 1184 b (omega (arith, l))
 
@@ -132,13 +133,13 @@ undo-of : (i : ℕ) (b : List ℕ) → length b ≡ 1184 → undoIn (2 ∷ i ∷
 unfolding undoIn
 undo-of i b l = ap (again i) (saved-is 2 i b l)
 
-off-of : (u : List ℕ) → tagOf u ≡ 1 → undoIn u ≡ off
+off-of : (u : List ℕ) → stepTag u ≡ 1 → undoIn u ≡ off
 unfolding undoIn
 off-of u t = rw t refl
 
 -- the same place below own data that is the same
-placed-as : (k n p : ℕ) (f f′ : ℕ → List ℕ) → ((j : ℕ) → j < n → f j ≡ f′ j) → placed k f n p ≡ placed k f′ n p
-unfolding placed
+placed-as : (k n p : ℕ) (f f′ : ℕ → List ℕ) → ((j : ℕ) → j < n → f j ≡ f′ j) → placedIn k f n p ≡ placedIn k f′ n p
+unfolding placedIn
 placed-as k n p f f′ e = split n p (λ q. rw (le-ltb p n q) refl) (λ q. rw (e p q) refl)
 
 refused-as : (e x : List ℕ) (f : ℕ → List ℕ) (n n′ i i′ : ℕ) → n ≡ n′ → i ≡ i′ → inOrder e (tab n (upd i x f)) n ≡ none
@@ -152,50 +153,50 @@ module _ (r : List ℕ) (F : Formed r) where
   h = F .head
 
   f₀ : ℕ → List ℕ
-  f₀ j = own j (area r)
+  f₀ j = ownData j (area r)
 
   g₀ : ℕ → List ℕ
-  g₀ j = step (limit (area r)) j (area r)
+  g₀ j = step (objectLimit (area r)) j (area r)
 
-  a-limit : limit (area r) ≡ limit r
+  a-limit : objectLimit (area r) ≡ objectLimit r
   a-limit = area-byte r 0 (omega arith)
 
-  a-depth : depth (area r) ≡ depth r
+  a-depth : stepLimit (area r) ≡ stepLimit r
   a-depth = area-byte r 1 (omega arith)
 
   a-objects : objects (area r) ≡ objects r
   a-objects = area-byte r 2 (omega arith)
 
-  a-kept : kept (area r) ≡ kept r
+  a-kept : keptSteps (area r) ≡ keptSteps r
   a-kept = area-byte r 3 (omega arith)
 
-  f-is : (j : ℕ) → j < limit r → f₀ j ≡ own j r
+  f-is : (j : ℕ) → j < objectLimit r → f₀ j ≡ ownData j r
   unfolding f₀
   f-is = area-own r
 
-  g-is : (j : ℕ) → j < depth r → g₀ j ≡ step (limit r) j r
+  g-is : (j : ℕ) → j < stepLimit r → g₀ j ≡ step (objectLimit r) j r
   unfolding g₀
   g-is j q = ap (λ (m : ℕ). step m j (area r)) a-limit ∙ area-step r j q
 
   O₀ : Owned (objects r) f₀
-  O₀ = owned-off (objects r) (objects r) (λ j. own j r) f₀ (F .owned) (omega arith) (λ j q. sym (f-is j (omega (arith, h .within))))
+  O₀ = owned-off (objects r) (objects r) (λ j. ownData j r) f₀ (F .owned) (omega arith) (λ j q. sym (f-is j (omega (arith, h .within))))
 
-  T₀ : stepsOk f₀ g₀ (kept r) 0 (objects r) ≡ true
+  T₀ : stepsOk f₀ g₀ (keptSteps r) 0 (objects r) ≡ true
   T₀ =
-      steps-as (λ j. own j r) f₀ (λ j. step (limit r) j r) g₀ (kept r) (objects r)
+      steps-as (λ j. ownData j r) f₀ (λ j. step (objectLimit r) j r) g₀ (keptSteps r) (objects r)
       (λ j q. sym (f-is j (omega (arith, h .within)))) (λ j q. sym (g-is j (omega (arith, h .kept-within)))) (F .steps)
 
-  own-long : (i : ℕ) → i < limit r → length (f₀ i) ≡ 1184
-  unfolding f₀ own
+  own-long : (i : ℕ) → i < objectLimit r → length (f₀ i) ≡ 1184
+  unfolding f₀ ownData
   own-long i q = length-part _ 1184 (area r) (omega (arith, area-length r h))
 
-  shown-as : shown r ≡ record { own = tab (objects r) f₀; lists = tab (objects r) (λ j. held (slot j (area r))); kept = tab (kept r) (λ j. undoIn (g₀ j)) }
+  shown-as : shown r ≡ record { own = tab (objects r) f₀; lists = tab (objects r) (λ j. held (slot j (area r))); kept = tab (keptSteps r) (λ j. undoIn (g₀ j)) }
   unfolding shown
   shown-as =
-      let a : tab (objects r) (λ i. own i r) ≡ tab (objects r) f₀ = tab-as _ _ _ f₀ refl (λ j q. sym (f-is j (omega (arith, h .within)))) in
+      let a : tab (objects r) (λ i. ownData i r) ≡ tab (objects r) f₀ = tab-as _ _ _ f₀ refl (λ j q. sym (f-is j (omega (arith, h .within)))) in
       let b : tab (objects r) (λ i. held (slot i r)) ≡ tab (objects r) (λ j. held (slot j (area r))) =
       tab-as _ _ _ (λ j. held (slot j (area r))) refl (λ j q. ap held (sym (area-slot r j (omega (arith, h .within))))) in
-      let c : tab (kept r) (λ j. undoIn (step (limit r) j r)) ≡ tab (kept r) (λ j. undoIn (g₀ j)) =
+      let c : tab (keptSteps r) (λ j. undoIn (step (objectLimit r) j r)) ≡ tab (keptSteps r) (λ j. undoIn (g₀ j)) =
       tab-as _ _ _ (λ j. undoIn (g₀ j)) refl (λ j q. ap undoIn (sym (g-is j (omega (arith, h .kept-within))))) in
       rw (a, b, c) refl
 
@@ -205,25 +206,25 @@ module _ (r : List ℕ) (F : Formed r) where
   Told none m = m ≡ none
   Told (some w) m =
       Formed (front w r)
-      × ((limit (front w r) ≡ limit r)
-      × ((depth (front w r) ≡ depth r)
+      × ((objectLimit (front w r) ≡ objectLimit r)
+      × ((stepLimit (front w r) ≡ stepLimit r)
       × ((settings (front w r) ≡ settings r) × ((length (front w r) ≡ length r) × (m ≡ some (shown (front w r)))))))
 
   settled-none : (R : Option (List MaybeList)) (n : ℕ) (f : ℕ → List ℕ) (us : List Undo) → R ≡ none
-      → settled (rules (limit r) (settings r)) (depth r) (tab n f) us R ≡ none
+      → settled (rules (objectLimit r) (settings r)) (stepLimit r) (tab n f) us R ≡ none
   unfolding settled
   settled-none R n f us e = rw e refl
 
   settled-some : (R : Option (List MaybeList)) (n : ℕ) (f : ℕ → List ℕ) (us : List Undo) (ls : List MaybeList) → R ≡ some ls
-      → settled (rules (limit r) (settings r)) (depth r) (tab n f) us R ≡ some (record { own = tab n f; lists = ls; kept = us })
+      → settled (rules (objectLimit r) (settings r)) (stepLimit r) (tab n f) us R ≡ some (record { own = tab n f; lists = ls; kept = us })
   unfolding settled
   settled-some R n f us ls e = rw e refl
 
-  settles : (o : Option (List ℕ)) (n : ℕ) (f : ℕ → List ℕ) (k : ℕ) (g : ℕ → List ℕ) (us : List Undo) → n ≤ limit r → k ≤ depth r → Owned n f
+  settles : (o : Option (List ℕ)) (n : ℕ) (f : ℕ → List ℕ) (k : ℕ) (g : ℕ → List ℕ) (us : List Undo) → n ≤ objectLimit r → k ≤ stepLimit r → Owned n f
       → stepsOk f g k 0 n ≡ true
       → tab k (λ j. undoIn (g j)) ≡ us
       → ((w : List ℕ) → o ≡ some w → Became (area r) w n f k g) → (o ≡ none → inOrder (settings (area r)) (tab n f) n ≡ none)
-      → Told o (settled (rules (limit r) (settings r)) (depth r) (tab n f) us (work (settings r) (tab n f)))
+      → Told o (settled (rules (objectLimit r) (settings r)) (stepLimit r) (tab n f) us (work (settings r) (tab n f)))
   unfolding Told
   settles none n f k g us hn hk O T eu made not-made =
       settled-none (work (settings r) (tab n f)) n f us
@@ -250,8 +251,8 @@ module _ (r : List ℕ) (F : Formed r) where
         ),
       )
 
-  change-ends : (i : ℕ) (o : Option (List ℕ)) (m : Option Tree) → Told o m → Ends r (finish i r o) m
-  unfolding finish Told
+  change-ends : (i : ℕ) (o : Option (List ℕ)) (m : Option Tree) → Told o m → Ends r (changeEnds i r o) m
+  unfolding changeEnds Told
   change-ends i none m t = refused-ends r F 8 0 0 m t
   change-ends i (some w) m t =
       let a : accepted (told-in (held (slot i w))) ≡ true = accepted-told (held (slot i w)) in
@@ -265,8 +266,8 @@ module _ (r : List ℕ) (F : Formed r) where
         stays = λ z. let y : _≡_ {A = ℕ} 0 1 = cc in absurd (omega arith);
       }
 
-  undo-done : (o : Option (List ℕ)) (m : Option Tree) → Told o m → Ends r (finishUndo r o) m
-  unfolding finishUndo Told
+  undo-done : (o : Option (List ℕ)) (m : Option Tree) → Told o m → Ends r (undoEnds r o) m
+  unfolding undoEnds Told
   undo-done none m t = refused-ends r F 8 0 0 m t
   undo-done (some w) m t =
       record {
@@ -281,57 +282,57 @@ module _ (r : List ℕ) (F : Formed r) where
 
   -- ---- the calls
 
-  Next : Call Change → Option Tree
-  Next q = after (rules (limit r) (settings r)) (depth r) (shown r) q
+  Next : Call ChangeGiven → Option Tree
+  Next q = after (rules (objectLimit r) (settings r)) (stepLimit r) (shown r) q
 
-  next-as : (q : Call Change)
-      → Next q ≡ after (rules (limit r) (settings r)) (depth r)
-      (record { own = tab (objects r) f₀; lists = tab (objects r) (λ j. held (slot j (area r))); kept = tab (kept r) (λ j. undoIn (g₀ j)) }) q
+  next-as : (q : Call ChangeGiven)
+      → Next q ≡ after (rules (objectLimit r) (settings r)) (stepLimit r)
+      (record { own = tab (objects r) f₀; lists = tab (objects r) (λ j. held (slot j (area r))); kept = tab (keptSteps r) (λ j. undoIn (g₀ j)) }) q
   unfolding Next
-  next-as q = ap (λ (t : Tree). after (rules (limit r) (settings r)) (depth r) t q) shown-as
+  next-as q = ap (λ (t : Tree). after (rules (objectLimit r) (settings r)) (stepLimit r) t q) shown-as
 
   passes-ends : (o rest : Outcome) (b : Bool) (m : Option Tree) → Passes r o rest b → (b ≡ true → Ends r rest m) → (b ≡ false → m ≡ none) → Ends r o m
   passes-ends o rest true m (on e) go back = subst (λ (x : Outcome). Ends r x m) (sym e) (go refl)
   passes-ends o rest false m (stop x) go back = refuses-ends r F o m x (back refl)
 
-  pushed-steps : (u : List ℕ) → tab (min (depth (area r)) (suc (kept (area r)))) (λ j. undoIn (ahead u g₀ j))
-      ≡ take (depth r) (undoIn u ∷ tab (kept r) (λ j. undoIn (g₀ j)))
+  pushed-steps : (u : List ℕ) → tab (min (stepLimit (area r)) (suc (keptSteps (area r)))) (λ j. undoIn (ahead u g₀ j))
+      ≡ take (stepLimit r) (undoIn u ∷ tab (keptSteps r) (λ j. undoIn (g₀ j)))
   unfolding ahead
   pushed-steps u =
       rw (a-depth, a-kept)
-      (tab-push (depth r) (kept r) (λ j. undoIn (g₀ j)) (λ j. undoIn (ahead u g₀ j)) (undoIn u) refl (λ i p q. refl))
+      (tab-push (stepLimit r) (keptSteps r) (λ j. undoIn (g₀ j)) (λ j. undoIn (ahead u g₀ j)) (undoIn u) refl (λ i p q. refl))
 
-  few-steps : min (depth (area r)) (suc (kept (area r))) ≤ suc (kept r)
+  few-steps : min (stepLimit (area r)) (suc (keptSteps (area r))) ≤ suc (keptSteps r)
   few-steps = omega (arith, a-depth, a-kept)
 
-  deep-steps : min (depth (area r)) (suc (kept (area r))) ≤ depth r
+  deep-steps : min (stepLimit (area r)) (suc (keptSteps (area r))) ≤ stepLimit r
   deep-steps = omega (arith, a-depth, a-kept)
 
   -- an alteration whose tests were passed
   alter-goes : (i : ℕ) (e : Edit) → i < objects r → fine e ≡ true
-      → Ends r (finish i r (changed 2 i (editAt e) (editBytes e) (objects r) (area r))) (Next (edit (alter i e)))
+      → Ends r (changeEnds i r (changed 2 i (editAt e) (editBytes e) (objects r) (area r))) (Next (edit (alter i e)))
   unfolding f₀ g₀
   alter-goes i e hi he =
-      let il : i < limit r = omega (arith, h .within) in
-      let il₁ : i < limit (area r) = omega (arith, a-limit) in
-      let nl : objects r ≤ limit (area r) = omega (arith, a-limit, h .within) in
+      let il : i < objectLimit r = omega (arith, h .within) in
+      let il₁ : i < objectLimit (area r) = omega (arith, a-limit) in
+      let nl : objects r ≤ objectLimit (area r) = omega (arith, a-limit, h .within) in
       let fits : editAt e + length (editBytes e) ≤ 1184 = omega (arith, edit-fits e he) in
-      let x : List ℕ = putAt (editAt e) (editBytes e) (own i (area r)) in
-      let u : List ℕ = 2 ∷ i ∷ own i (area r) in
+      let x : List ℕ = putAt (editAt e) (editBytes e) (ownData i (area r)) in
+      let u : List ℕ = 2 ∷ i ∷ ownData i (area r) in
       let lo = own-long i il in
       let ba = O₀ i hi .0 in
-      let keeps = edit-keeps (own i (area r)) lo e he in
-      let O = owned-put (objects r) i x f₀ O₀ hi (edit-good (own i (area r)) lo e he ba) keeps in
-      let T = put-steps (objects r) i (kept r) (min (depth (area r)) (suc (kept (area r)))) x u f₀ g₀ O₀ T₀ hi keeps refl refl
-      (saved-is 2 i (own i (area r)) lo) few-steps in
-      let us : List Undo = take (depth r) (undoIn u ∷ tab (kept r) (λ j. undoIn (g₀ j))) in
-      subst (Ends r (finish i r (changed 2 i (editAt e) (editBytes e) (objects r) (area r))))
+      let keeps = edit-keeps (ownData i (area r)) lo e he in
+      let O = owned-put (objects r) i x f₀ O₀ hi (edit-good (ownData i (area r)) lo e he ba) keeps in
+      let T = put-steps (objects r) i (keptSteps r) (min (stepLimit (area r)) (suc (keptSteps (area r)))) x u f₀ g₀ O₀ T₀ hi keeps refl refl
+      (saved-is 2 i (ownData i (area r)) lo) few-steps in
+      let us : List Undo = take (stepLimit r) (undoIn u ∷ tab (keptSteps r) (λ j. undoIn (g₀ j))) in
+      subst (Ends r (changeEnds i r (changed 2 i (editAt e) (editBytes e) (objects r) (area r))))
       (sym (next-as (edit (alter i e))
-      ∙ alter-after (limit r) (depth r) (settings r) (objects r) f₀ _ _ i e hi he
-      ∙ ap (λ (y : Undo). settled (rules (limit r) (settings r)) (depth r) (tab (objects r) (upd i x f₀))
-      (take (depth r) (y ∷ tab (kept r) (λ j. undoIn (g₀ j)))) (work (settings r) (tab (objects r) (upd i x f₀)))) (sym (undo-of i (own i (area r)) lo))))
+      ∙ alter-after (objectLimit r) (stepLimit r) (settings r) (objects r) f₀ _ _ i e hi he
+      ∙ ap (λ (y : Undo). settled (rules (objectLimit r) (settings r)) (stepLimit r) (tab (objects r) (upd i x f₀))
+      (take (stepLimit r) (y ∷ tab (keptSteps r) (λ j. undoIn (g₀ j)))) (work (settings r) (tab (objects r) (upd i x f₀)))) (sym (undo-of i (ownData i (area r)) lo))))
       (change-ends i _ _
-      (settles (changed 2 i (editAt e) (editBytes e) (objects r) (area r)) (objects r) (upd i x f₀) (min (depth (area r)) (suc (kept (area r)))) (ahead u g₀) us
+      (settles (changed 2 i (editAt e) (editBytes e) (objects r) (area r)) (objects r) (upd i x f₀) (min (stepLimit (area r)) (suc (keptSteps (area r)))) (ahead u g₀) us
       (omega (arith, h .within)) deep-steps O T (pushed-steps u)
       (λ w q. change-became (area r) (area-ready r h) 2 i (editAt e) (editBytes e) (objects r) il₁ nl fits w q)
       (λ q. change-refused (area r) (area-ready r h) 2 i (editAt e) (editBytes e) (objects r) il₁ nl fits q)))
@@ -339,7 +340,7 @@ module _ (r : List ℕ) (F : Formed r) where
   alter-ends : (i : ℕ) (e : Edit) → Ends r (alterTo i e r) (Next (edit (alter i e)))
   unfolding alterTo onObject
   alter-ends i e =
-      let go : Outcome = finish i r (changed 2 i (editAt e) (editBytes e) (objects r) (area r)) in
+      let go : Outcome = changeEnds i r (changed 2 i (editAt e) (editBytes e) (objects r) (area r)) in
       let F₁ = facts-formed r F in
       passes-ends (alterTo i e r) go (formed r && (ltb i (objects r) && fine e)) (Next (edit (alter i e)))
       (then r _ _ go (formed r) (ltb i (objects r) && fine e) (need-first (formed r) 13 r _)
@@ -347,40 +348,40 @@ module _ (r : List ℕ) (F : Formed r) where
       (λ b.
       let t = both-true (ltb i (objects r)) (fine e) (both-true (formed r) (ltb i (objects r) && fine e) b .1) in
       alter-goes i e (ltb-true i (objects r) (t .0)) (t .1))
-      (λ b. next-as (edit (alter i e)) ∙ alter-none (limit r) (depth r) (settings r) (objects r) f₀ _ _ i e (rw F₁ at b))
+      (λ b. next-as (edit (alter i e)) ∙ alter-none (objectLimit r) (stepLimit r) (settings r) (objects r) f₀ _ _ i e (rw F₁ at b))
 
   -- an add whose tests were passed
-  add-goes : (new : New) → Asked (limit r) new (objects r) f₀ ≡ true
-      → Ends r (finish (objects r) r (changed 1 (objects r) 0 (blockFor new) (objects r + 1) (area r))) (Next (edit (add new)))
+  add-goes : (new : New) → Asked (objectLimit r) new (objects r) f₀ ≡ true
+      → Ends r (changeEnds (objects r) r (changed 1 (objects r) 0 (blockFor new) (objects r + 1) (area r))) (Next (edit (add new)))
   unfolding f₀ g₀
   add-goes new ask =
-      let t₁ = both-true (placed nobody f₀ (objects r) (new .parent)) _ ask in
-      let t₂ = both-true (ltb (objects r) (limit r)) _ (t₁ .1) in
+      let t₁ = both-true (placedIn nobody f₀ (objects r) (new .parent)) _ ask in
+      let t₂ = both-true (ltb (objects r) (objectLimit r)) _ (t₁ .1) in
       let t₃ = both-true (reads (new .list)) _ (t₂ .1) in
       let t₄ = both-true (ordinary (new .owner)) _ (t₃ .1) in
-      let t₅ = both-true (ordinary (new .group)) (short (new .list)) (t₄ .1) in
-      let nl : objects r < limit r = ltb-true (objects r) (limit r) (t₂ .0) in
-      let nl₁ : objects r < limit (area r) = omega (arith, a-limit) in
-      let nl₂ : objects r + 1 ≤ limit (area r) = omega (arith, a-limit) in
+      let t₅ = both-true (ordinary (new .group)) (shortIf (new .list)) (t₄ .1) in
+      let nl : objects r < objectLimit r = ltb-true (objects r) (objectLimit r) (t₂ .0) in
+      let nl₁ : objects r < objectLimit (area r) = omega (arith, a-limit) in
+      let nl₂ : objects r + 1 ≤ objectLimit (area r) = omega (arith, a-limit) in
       let shows = new-shows new (t₄ .0) (t₅ .0) (t₅ .1) in
       let fits : 0 + length (blockFor new) ≤ 1184 = omega (arith, shows .long) in
-      let x : List ℕ = putAt 0 (blockFor new) (own (objects r) (area r)) in
-      let ex : x ≡ blockFor new = put-whole (blockFor new) (own (objects r) (area r)) (shows .long ∙ sym (own-long (objects r) nl)) in
-      let u : List ℕ = 1 ∷ objects r ∷ own (objects r) (area r) in
+      let x : List ℕ = putAt 0 (blockFor new) (ownData (objects r) (area r)) in
+      let ex : x ≡ blockFor new = put-whole (blockFor new) (ownData (objects r) (area r)) (shows .long ∙ sym (own-long (objects r) nl)) in
+      let u : List ℕ = 1 ∷ objects r ∷ ownData (objects r) (area r) in
       let O = owned-add (objects r) (new .parent) x f₀ O₀ (omega (arith, h .limit-64)) (rw ex (new-good new (t₄ .0) (t₅ .0) (t₅ .1) (t₃ .0))) (t₁ .0)
       (rw ex (shows .parent)) in
-      let T = add-steps (objects r) (kept r) (min (depth (area r)) (suc (kept (area r)))) x u f₀ g₀ T₀ refl refl few-steps in
-      let us : List Undo = take (depth r) (undoIn u ∷ tab (kept r) (λ j. undoIn (g₀ j))) in
-      subst (Ends r (finish (objects r) r (changed 1 (objects r) 0 (blockFor new) (objects r + 1) (area r))))
+      let T = add-steps (objects r) (keptSteps r) (min (stepLimit (area r)) (suc (keptSteps (area r)))) x u f₀ g₀ T₀ refl refl few-steps in
+      let us : List Undo = take (stepLimit r) (undoIn u ∷ tab (keptSteps r) (λ j. undoIn (g₀ j))) in
+      subst (Ends r (changeEnds (objects r) r (changed 1 (objects r) 0 (blockFor new) (objects r + 1) (area r))))
       (sym (next-as (edit (add new))
-      ∙ add-after (limit r) (depth r) (settings r) (objects r) f₀ _ _ new ask
-      ∙ ap (λ (b : List ℕ). settled (rules (limit r) (settings r)) (depth r) (tab (objects r + 1) (upd (objects r) b f₀))
-      (take (depth r) (off ∷ tab (kept r) (λ j. undoIn (g₀ j)))) (work (settings r) (tab (objects r + 1) (upd (objects r) b f₀)))) (sym ex)
-      ∙ ap (λ (y : Undo). settled (rules (limit r) (settings r)) (depth r) (tab (objects r + 1) (upd (objects r) x f₀))
-      (take (depth r) (y ∷ tab (kept r) (λ j. undoIn (g₀ j)))) (work (settings r) (tab (objects r + 1) (upd (objects r) x f₀)))) (sym (off-of u refl))))
+      ∙ add-after (objectLimit r) (stepLimit r) (settings r) (objects r) f₀ _ _ new ask
+      ∙ ap (λ (b : List ℕ). settled (rules (objectLimit r) (settings r)) (stepLimit r) (tab (objects r + 1) (upd (objects r) b f₀))
+      (take (stepLimit r) (off ∷ tab (keptSteps r) (λ j. undoIn (g₀ j)))) (work (settings r) (tab (objects r + 1) (upd (objects r) b f₀)))) (sym ex)
+      ∙ ap (λ (y : Undo). settled (rules (objectLimit r) (settings r)) (stepLimit r) (tab (objects r + 1) (upd (objects r) x f₀))
+      (take (stepLimit r) (y ∷ tab (keptSteps r) (λ j. undoIn (g₀ j)))) (work (settings r) (tab (objects r + 1) (upd (objects r) x f₀)))) (sym (off-of u refl))))
       (change-ends (objects r) _ _
       (settles (changed 1 (objects r) 0 (blockFor new) (objects r + 1) (area r)) (objects r + 1) (upd (objects r) x f₀)
-      (min (depth (area r)) (suc (kept (area r)))) (ahead u g₀) us
+      (min (stepLimit (area r)) (suc (keptSteps (area r)))) (ahead u g₀) us
       (omega arith) deep-steps O T (pushed-steps u)
       (λ w q. change-became (area r) (area-ready r h) 1 (objects r) 0 (blockFor new) (objects r + 1) nl₁ nl₂ fits w q)
       (λ q. change-refused (area r) (area-ready r h) 1 (objects r) 0 (blockFor new) (objects r + 1) nl₁ nl₂ fits q)))
@@ -388,95 +389,95 @@ module _ (r : List ℕ) (F : Formed r) where
   add-ends : (new : New) → Ends r (addTo new r) (Next (edit (add new)))
   unfolding addTo
   add-ends new =
-      let go : Outcome = finish (objects r) r (changed 1 (objects r) 0 (blockFor new) (objects r + 1) (area r)) in
+      let go : Outcome = changeEnds (objects r) r (changed 1 (objects r) 0 (blockFor new) (objects r + 1) (area r)) in
       let F₁ = facts-formed r F in
-      let same : placed nobody (λ j. own j r) (objects r) (new .parent) ≡ placed nobody f₀ (objects r) (new .parent) =
-      placed-as nobody (objects r) (new .parent) (λ j. own j r) f₀ (λ j q. sym (f-is j (omega (arith, h .within)))) in
-      passes-ends (addTo new r) go (formed r && Asked (limit r) new (objects r) (λ j. own j r)) (Next (edit (add new)))
+      let same : placedIn nobody (λ j. ownData j r) (objects r) (new .parent) ≡ placedIn nobody f₀ (objects r) (new .parent) =
+      placed-as nobody (objects r) (new .parent) (λ j. ownData j r) f₀ (λ j q. sym (f-is j (omega (arith, h .within)))) in
+      passes-ends (addTo new r) go (formed r && Asked (objectLimit r) new (objects r) (λ j. ownData j r)) (Next (edit (add new)))
       (then r _ _ go (formed r) _ (need-first (formed r) 13 r _)
-      (then r _ _ go (placed nobody (λ j. own j r) (objects r) (new .parent)) _ (need-first (placed nobody (λ j. own j r) (objects r) (new .parent)) 9 r _)
-      (then r _ _ go (ltb (objects r) (limit r)) _ (need-first (ltb (objects r) (limit r)) 10 r _)
+      (then r _ _ go (placedIn nobody (λ j. ownData j r) (objects r) (new .parent)) _ (need-first (placedIn nobody (λ j. ownData j r) (objects r) (new .parent)) 9 r _)
+      (then r _ _ go (ltb (objects r) (objectLimit r)) _ (need-first (ltb (objects r) (objectLimit r)) 10 r _)
       (then r _ _ go (reads (new .list)) _ (reads-first (new .list) 2 r _)
       (then r _ _ go (ordinary (new .owner)) _ (need-first (ordinary (new .owner)) 6 r _)
-      (then r _ _ go (ordinary (new .group)) (short (new .list)) (need-first (ordinary (new .group)) 6 r _) (need-first (short (new .list)) 8 r go)))))))
+      (then r _ _ go (ordinary (new .group)) (shortIf (new .list)) (need-first (ordinary (new .group)) 6 r _) (need-first (shortIf (new .list)) 8 r go)))))))
       (λ b. add-goes new (rw same at (both-true (formed r) _ b .1)))
-      (λ b. next-as (edit (add new)) ∙ add-none (limit r) (depth r) (settings r) (objects r) f₀ _ _ new (rw (F₁, same) at b))
+      (λ b. next-as (edit (add new)) ∙ add-none (objectLimit r) (stepLimit r) (settings r) (objects r) f₀ _ _ new (rw (F₁, same) at b))
 
   became-as : (w x : List ℕ) (f g : ℕ → List ℕ) (n n′ i i′ k k′ : ℕ) → n ≡ n′ → i ≡ i′ → k ≡ k′ → Became (area r) w n (upd i x f) k g
       → Became (area r) w n′ (upd i′ x f) k′ g
   became-as w x f g n n′ i i′ k k′ en ei ek b = rw (← en, ← ei, ← ek) b
 
-  module _ (p : 0 < kept r) where
+  module _ (p : 0 < keptSteps r) where
     m : ℕ
-    m = kept r - 1
+    m = keptSteps r - 1
 
     steps : stepsOk f₀ g₀ (suc m) 0 (objects r) ≡ true
     unfolding m
-    steps = let e : kept r ≡ suc (kept r - 1) = omega arith in rw (← e) T₀
+    steps = let e : keptSteps r ≡ suc (keptSteps r - 1) = omega arith in rw (← e) T₀
 
-    first : tab (kept r) (λ j. undoIn (g₀ j)) ≡ undoIn (g₀ 0) ∷ tab (kept r - 1) (λ j. undoIn (g₀ (suc j)))
-    first = tab-first (kept r) (λ j. undoIn (g₀ j)) p
+    first : tab (keptSteps r) (λ j. undoIn (g₀ j)) ≡ undoIn (g₀ 0) ∷ tab (keptSteps r - 1) (λ j. undoIn (g₀ (suc j)))
+    first = tab-first (keptSteps r) (λ j. undoIn (g₀ j)) p
 
-    k-is : kept (area r) - 1 ≡ kept r - 1
+    k-is : keptSteps (area r) - 1 ≡ keptSteps r - 1
     k-is = omega (arith, a-kept)
 
-    p₁ : 0 < kept (area r)
+    p₁ : 0 < keptSteps (area r)
     p₁ = omega (arith, a-kept)
 
-    off-goes : Adds (objects r) (g₀ 0) → Ends r (finishUndo r (undone (area r))) (Next undo)
+    off-goes : Adds (objects r) (g₀ 0) → Ends r (undoEnds r (stepTakenBack (area r))) (Next undo)
     unfolding f₀ g₀ m
     off-goes a =
-        let x : List ℕ = savedIn (latest (area r)) in
-        let el : left (area r) ≡ objects r - 1 = rw (a .tag, a-objects) refl in
-        let en : numberOf (latest (area r)) ≡ objects r - 1 = a .number in
-        let hi : numberOf (latest (area r)) < limit (area r) = omega (arith, a-limit, h .within, a .some, en) in
-        let hn : left (area r) ≤ limit (area r) = omega (arith, a-limit, h .within, el) in
-        let T = off-steps (objects r) (kept r - 1) f₀ g₀ steps (a .tag) .1 x in
+        let x : List ℕ = stepData (latest (area r)) in
+        let el : standingAfter (area r) ≡ objects r - 1 = rw (a .tag, a-objects) refl in
+        let en : stepObject (latest (area r)) ≡ objects r - 1 = a .number in
+        let hi : stepObject (latest (area r)) < objectLimit (area r) = omega (arith, a-limit, h .within, a .some, en) in
+        let hn : standingAfter (area r) ≤ objectLimit (area r) = omega (arith, a-limit, h .within, el) in
+        let T = off-steps (objects r) (keptSteps r - 1) f₀ g₀ steps (a .tag) .1 x in
         let O = owned-off (objects r) (objects r - 1) f₀ (upd (objects r - 1) x f₀) O₀ (omega arith)
         (λ j q. sym (upd-other (objects r - 1) x f₀ j (λ z. absurd (omega arith)))) in
-        subst (Ends r (finishUndo r (undone (area r))))
-        (sym (next-as undo ∙ undo-off (limit r) (depth r) (settings r) (objects r) f₀ _ _ (latest (area r)) _ first (a .tag)))
+        subst (Ends r (undoEnds r (stepTakenBack (area r))))
+        (sym (next-as undo ∙ undo-off (objectLimit r) (stepLimit r) (settings r) (objects r) f₀ _ _ (latest (area r)) _ first (a .tag)))
         (undo-done _ _
-        (settles (undone (area r)) (objects r - 1) (upd (objects r - 1) x f₀) (kept r - 1) (λ j. g₀ (suc j)) (tab (kept r - 1) (λ j. undoIn (g₀ (suc j))))
+        (settles (stepTakenBack (area r)) (objects r - 1) (upd (objects r - 1) x f₀) (keptSteps r - 1) (λ j. g₀ (suc j)) (tab (keptSteps r - 1) (λ j. undoIn (g₀ (suc j))))
         (omega (arith, h .within)) (omega (arith, h .kept-within)) O T refl
         (λ w q. became-as w x f₀ (λ j. g₀ (suc j)) _ _ _ _ _ _ el en k-is (undo-became (area r) (area-ready r h) p₁ hi hn w q))
         (λ q. refused-as (settings (area r)) x f₀ _ _ _ _ el en (undo-refused (area r) (area-ready r h) p₁ hi hn q))))
 
-    again-goes : Again f₀ (objects r) (g₀ 0) → Ends r (finishUndo r (undone (area r))) (Next undo)
+    again-goes : Again f₀ (objects r) (g₀ 0) → Ends r (undoEnds r (stepTakenBack (area r))) (Next undo)
     unfolding f₀ g₀ m
     again-goes a =
-        let x : List ℕ = savedIn (latest (area r)) in
-        let el : left (area r) ≡ objects r = rw (a .tag, a-objects) refl in
-        let hi : numberOf (latest (area r)) < limit (area r) = omega (arith, a-limit, h .within, a .number) in
-        let hn : left (area r) ≤ limit (area r) = omega (arith, a-limit, h .within, el) in
-        let T = back-steps (objects r) (kept r - 1) f₀ g₀ steps (a .tag) .1 in
-        let O = owned-put (objects r) (numberOf (latest (area r))) x f₀ O₀ (a .number) (a .block) (a .same) in
-        subst (Ends r (finishUndo r (undone (area r))))
-        (sym (next-as undo ∙ undo-again (limit r) (depth r) (settings r) (objects r) f₀ _ _ (latest (area r)) _ first (a .tag) (a .number)))
+        let x : List ℕ = stepData (latest (area r)) in
+        let el : standingAfter (area r) ≡ objects r = rw (a .tag, a-objects) refl in
+        let hi : stepObject (latest (area r)) < objectLimit (area r) = omega (arith, a-limit, h .within, a .number) in
+        let hn : standingAfter (area r) ≤ objectLimit (area r) = omega (arith, a-limit, h .within, el) in
+        let T = back-steps (objects r) (keptSteps r - 1) f₀ g₀ steps (a .tag) .1 in
+        let O = owned-put (objects r) (stepObject (latest (area r))) x f₀ O₀ (a .number) (a .block) (a .same) in
+        subst (Ends r (undoEnds r (stepTakenBack (area r))))
+        (sym (next-as undo ∙ undo-again (objectLimit r) (stepLimit r) (settings r) (objects r) f₀ _ _ (latest (area r)) _ first (a .tag) (a .number)))
         (undo-done _ _
-        (settles (undone (area r)) (objects r) (upd (numberOf (latest (area r))) x f₀) (kept r - 1) (λ j. g₀ (suc j))
-        (tab (kept r - 1) (λ j. undoIn (g₀ (suc j))))
+        (settles (stepTakenBack (area r)) (objects r) (upd (stepObject (latest (area r))) x f₀) (keptSteps r - 1) (λ j. g₀ (suc j))
+        (tab (keptSteps r - 1) (λ j. undoIn (g₀ (suc j))))
         (h .within) (omega (arith, h .kept-within)) O T refl
         (λ w q. became-as w x f₀ (λ j. g₀ (suc j)) _ _ _ _ _ _ el refl k-is (undo-became (area r) (area-ready r h) p₁ hi hn w q))
         (λ q. refused-as (settings (area r)) x f₀ _ _ _ _ el refl (undo-refused (area r) (area-ready r h) p₁ hi hn q))))
 
-    undo-goes : Ends r (finishUndo r (undone (area r))) (Next undo)
+    undo-goes : Ends r (undoEnds r (stepTakenBack (area r))) (Next undo)
     undo-goes = ⊎-elim off-goes again-goes (latest-of (objects r) m f₀ g₀ steps)
 
   undo-ends : Ends r (undoTo r) (Next undo)
   unfolding undoTo tab
   undo-ends =
-      let go : Outcome = finishUndo r (undone (area r)) in
+      let go : Outcome = undoEnds r (stepTakenBack (area r)) in
       let F₁ = facts-formed r F in
-      passes-ends (undoTo r) go (formed r && ltb 0 (kept r)) (Next undo)
-      (then r _ _ go (formed r) (ltb 0 (kept r)) (need-first (formed r) 13 r _) (need-first (ltb 0 (kept r)) 11 r go))
-      (λ b. undo-goes (ltb-true 0 (kept r) (both-true (formed r) (ltb 0 (kept r)) b .1)))
+      passes-ends (undoTo r) go (formed r && ltb 0 (keptSteps r)) (Next undo)
+      (then r _ _ go (formed r) (ltb 0 (keptSteps r)) (need-first (formed r) 13 r _) (need-first (ltb 0 (keptSteps r)) 11 r go))
+      (λ b. undo-goes (ltb-true 0 (keptSteps r) (both-true (formed r) (ltb 0 (keptSteps r)) b .1)))
       (λ b.
-      let c : ltb 0 (kept r) ≡ false = rw F₁ at b in
-      let z : kept r ≡ 0 = split (kept r) 0 (λ q. omega arith) (λ q. let y : _≡_ {A = ℕ} 0 1 = cc (lt-ltb 0 (kept r) q) in absurd (omega arith)) in
-      next-as undo ∙ undo-none (limit r) (depth r) (settings r) (objects r) f₀ _ _ (rw z refl))
+      let c : ltb 0 (keptSteps r) ≡ false = rw F₁ at b in
+      let z : keptSteps r ≡ 0 = split (keptSteps r) 0 (λ q. omega arith) (λ q. let y : _≡_ {A = ℕ} 0 1 = cc (lt-ltb 0 (keptSteps r) q) in absurd (omega arith)) in
+      next-as undo ∙ undo-none (objectLimit r) (stepLimit r) (settings r) (objects r) f₀ _ _ (rw z refl))
 
-pub call-ends : (r : List ℕ) → formed r ≡ true → (q : Call Change) → Ends r (callTo q r) (after (rules (limit r) (settings r)) (depth r) (shown r) q)
+pub call-ends : (r : List ℕ) → formed r ≡ true → (q : Call ChangeGiven) → Ends r (callTo q r) (after (rules (objectLimit r) (settings r)) (stepLimit r) (shown r) q)
 unfolding callTo Next
 call-ends r e (edit (add new)) = add-ends r (formed-facts r e) new
 call-ends r e (edit (alter i ed)) = alter-ends r (formed-facts r e) i ed

@@ -18,13 +18,14 @@ use Rattle.list.proofs.Tests.{both-true, off}
 use Rattle.inherit.specs.declared.Mapping.{Mapping}
 use Rattle.inherit.specs.Asked.{MaybeList}
 use Rattle.inherit.specs.Compute.{ruleOk}
+use Rattle.tree.specs.Model.{shortIf, limitsOk}
 use Rattle.tree.specs.General.{isSome, orElse, tab}
 use Rattle.tree.specs.declared.Answer.the-variants.{Done, Refused}
 use Rattle.tree.specs.Held.{held, ownList}
-use Rattle.tree.specs.Room.{limit, depth, objects, kept, roomFor, limitsOk, settings, settingsFor, own, slot, area, emptyRoom}
+use Rattle.tree.specs.Room.{objectLimit, stepLimit, objects, keptSteps, roomFor, settings, settingsFor, ownData, slot, area, emptyRoom}
 use Rattle.tree.specs.Formed.{stepsOk, formed}
 use Rattle.list.specs.Order.{need}
-use Rattle.tree.specs.Calls.{Outcome, short, onObject, told, bytesIf, dataOf, copied, startOk, finishUndo, undone, startTo, undoTo, listTo, Change}
+use Rattle.tree.specs.Calls.{Outcome, onObject, toldAs, listBytes, dataOf, copied, startOk, undoEnds, stepTakenBack, startTo, undoTo, listTo, ChangeGiven}
 use Rattle.tree.specs.Calls.{ownTo, dataTo}
 use Rattle.tree.proofs.History.{State, Call, edit, undo, Rules, settled, edited, undone as machine-undone, after, start, run, replay, afresh}
 use Rattle.tree.proofs.History.{remains, accepts, positive}
@@ -62,25 +63,25 @@ module _ {C D L U : Type 0} (R : Rules C D L U) (S : ℕ) (t t′ : State D L U)
   after-fresh (edit c) h = edited-fresh c (R .change c (t .own)) h
   after-fresh undo h = undone-fresh (t .kept) h
 
-pub record Keeps (r : List ℕ) (q : Call Change) : Type 0 where
+pub record Keeps (r : List ℕ) (q : Call ChangeGiven) : Type 0 where
   pub well : formed (callTo q r .bytes) ≡ true
   pub refused-stays : accepted (callTo q r .answer) ≡ false → callTo q r .bytes ≡ r
   pub lists-fresh : accepted (callTo q r .answer) ≡ true → work (settings r) (shown (callTo q r .bytes) .own) ≡ some (shown (callTo q r .bytes) .lists)
 
-pub keeps : (r : List ℕ) → formed r ≡ true → (q : Call Change) → Keeps r q
+pub keeps : (r : List ℕ) → formed r ≡ true → (q : Call ChangeGiven) → Keeps r q
 unfolding rules
 keeps r h q =
     let E = call-ends r h q in
     record {
       well = facts-formed (callTo q r .bytes) (E .well);
       refused-stays = E .stays;
-      lists-fresh = λ a. after-fresh (rules (limit r) (settings r)) (depth r) (shown r) (shown (callTo q r .bytes)) q (E .told ∙ rw a refl);
+      lists-fresh = λ a. after-fresh (rules (objectLimit r) (settings r)) (stepLimit r) (shown r) (shown (callTo q r .bytes)) q (E .told ∙ rw a refl);
     }
 
 -- ---- a started tree
 
 module _ (n s rule : ℕ) (m : Mapping) (default : MaybeList) (r : List ℕ) (ok : startOk n s rule (length r) ≡ true) (good : reads default ≡ true)
-    (few : short default ≡ true) where
+    (few : shortIf default ≡ true) where
   E : List ℕ
   E = settingsFor rule m default
 
@@ -104,11 +105,11 @@ module _ (n s rule : ℕ) (m : Mapping) (default : MaybeList) (r : List ℕ) (ok
   unfolding first
   first-length = simp (length-append, length-drop) (omega (arith, empty-length, limits .1 .1))
 
-  first-limit : limit first ≡ n
+  first-limit : objectLimit first ≡ n
   unfolding first emptyRoom
   first-limit = refl
 
-  first-depth : depth first ≡ s
+  first-depth : stepLimit first ≡ s
   unfolding first emptyRoom
   first-depth = refl
 
@@ -116,7 +117,7 @@ module _ (n s rule : ℕ) (m : Mapping) (default : MaybeList) (r : List ℕ) (ok
   unfolding first emptyRoom
   first-objects = refl
 
-  first-kept : kept first ≡ 0
+  first-kept : keptSteps first ≡ 0
   unfolding first emptyRoom
   first-kept = refl
 
@@ -159,8 +160,8 @@ module _ (n s rule : ℕ) (m : Mapping) (default : MaybeList) (r : List ℕ) (ok
 module _ (n s : ℕ) (e : List ℕ) where
   record Good (r : List ℕ) (t : Tree) : Type 0 where
     well : formed r ≡ true
-    limits-are : limit r ≡ n
-    depth-is : depth r ≡ s
+    limits-are : objectLimit r ≡ n
+    depth-is : stepLimit r ≡ s
     settings-are : settings r ≡ e
     shows : shown r ≡ t
 
@@ -171,7 +172,7 @@ module _ (n s : ℕ) (e : List ℕ) where
   call-by r r′ t m true e h stays = rw h (refl, refl)
   call-by r r′ t m false e h stays = rw h (rw (stays refl) e, refl)
 
-  call-good : (r : List ℕ) (t : Tree) (q : Call Change) → Good r t
+  call-good : (r : List ℕ) (t : Tree) (q : Call ChangeGiven) → Good r t
       → Good (callTo q r .bytes) (orElse t (after (rules n e) s t q)) × (accepted (callTo q r .answer) ≡ isSome (after (rules n e) s t q))
   call-good r t q g =
       let X = call-ends r (g .well) q in
@@ -188,12 +189,12 @@ module _ (n s : ℕ) (e : List ℕ) where
         c .1,
       )
 
-  all-good : (r : List ℕ) → Good r (start (rules n e) s) → (qs : List (Call Change)) → Good (played qs r) (run (rules n e) s qs)
+  all-good : (r : List ℕ) → Good r (start (rules n e) s) → (qs : List (Call ChangeGiven)) → Good (played qs r) (run (rules n e) s qs)
   unfolding played run
   all-good r g [] = g
   all-good r g (q ∷ qs) = call-good (played qs r) (run (rules n e) s qs) q (all-good r g qs) .0
 
-past-undo : (n s : ℕ) (e : List ℕ) (qs : List (Call Change)) → 0 < remains (rules n e) s qs .left → accepts (rules n e) s (remains (rules n e) s qs) undo ≡ true
+past-undo : (n s : ℕ) (e : List ℕ) (qs : List (Call ChangeGiven)) → 0 < remains (rules n e) s qs .left → accepts (rules n e) s (remains (rules n e) s qs) undo ≡ true
 unfolding accepts positive
 past-undo n s e qs h = by (remains (rules n e) s qs .left) h
   where
@@ -202,53 +203,53 @@ past-undo n s e qs h = by (remains (rules n e) s qs .left) h
     by (suc k) q = refl
 
 -- an undo's answer: 11 where no step is kept; done where it is accepted
-undo-11 : (r : List ℕ) → formed r ≡ true → kept r ≡ 0 → undoTo r .answer ≡ Refused 11 0 0
+undo-11 : (r : List ℕ) → formed r ≡ true → keptSteps r ≡ 0 → undoTo r .answer ≡ Refused 11 0 0
 unfolding undoTo need
 undo-11 r h k = rw (h, k) refl
 
-pub undo-0 : (r : List ℕ) → formed r ≡ true → 0 < kept r → accepted (undoTo r .answer) ≡ true → undoTo r .answer ≡ Done 0 false 0
-unfolding undoTo need finishUndo
-undo-0 r h k a = rw (h, lt-ltb 0 (kept r) k) (by (undone (area r)) (rw (h, lt-ltb 0 (kept r) k) at a))
+pub undo-0 : (r : List ℕ) → formed r ≡ true → 0 < keptSteps r → accepted (undoTo r .answer) ≡ true → undoTo r .answer ≡ Done 0 false 0
+unfolding undoTo need undoEnds
+undo-0 r h k a = rw (h, lt-ltb 0 (keptSteps r) k) (by (stepTakenBack (area r)) (rw (h, lt-ltb 0 (keptSteps r) k) at a))
   where
-    by : (o : Option (List ℕ)) → accepted (finishUndo r o .answer) ≡ true → finishUndo r o .answer ≡ Done 0 false 0
+    by : (o : Option (List ℕ)) → accepted (undoEnds r o .answer) ≡ true → undoEnds r o .answer ≡ Done 0 false 0
     by none b = let z : _≡_ {A = ℕ} 0 1 = cc in absurd (omega arith)
     by (some w) b = refl
 
-shown-kept : (r : List ℕ) → length (shown r .kept) ≡ kept r
+shown-kept : (r : List ℕ) → length (shown r .kept) ≡ keptSteps r
 unfolding shown
-shown-kept r = length-tab (kept r) _
+shown-kept r = length-tab (keptSteps r) _
 
 -- what is read back is what the room shows: a computed list, an own list, own data
 pub record ReadBack (r out : List ℕ) (i : ℕ) : Type 0 where
-  pub computed-list : listTo i r out ≡ copied (told (getD (shown r .lists) i none)) (bytesIf (getD (shown r .lists) i none)) out
-  pub own-list : ownTo i r out ≡ copied (told (ownList (getD (shown r .own) i []))) (bytesIf (ownList (getD (shown r .own) i []))) out
+  pub computed-list : listTo i r out ≡ copied (toldAs (getD (shown r .lists) i none)) (listBytes (getD (shown r .lists) i none)) out
+  pub own-list : ownTo i r out ≡ copied (toldAs (ownList (getD (shown r .own) i []))) (listBytes (ownList (getD (shown r .own) i []))) out
   pub own-data : dataTo i r out ≡ copied (Done (length (dataOf (getD (shown r .own) i []))) true 0) (dataOf (getD (shown r .own) i [])) out
 
 read-shown : (r out : List ℕ) (i : ℕ) → formed r ≡ true → i < objects r → ReadBack r out i
 unfolding listTo ownTo dataTo onObject need shown
 read-shown r out i h k =
     let l = getD-tab (objects r) (λ j. held (slot j r)) i none k in
-    let o = getD-tab (objects r) (λ j. own j r) i [] k in
+    let o = getD-tab (objects r) (λ j. ownData j r) i [] k in
     let t = lt-ltb i (objects r) k in
     record { computed-list = rw (h, t, l) refl; own-list = rw (h, t, o) refl; own-data = rw (h, t, o) refl }
 
 -- what holds after the calls qs, the latest first, on the room r
-pub record Reached (n s : ℕ) (e r : List ℕ) (qs : List (Call Change)) : Type 0 where
+pub record Reached (n s : ℕ) (e r : List ℕ) (qs : List (Call ChangeGiven)) : Type 0 where
   pub well : formed (played qs r) ≡ true
-  pub limit-is : limit (played qs r) ≡ n
-  pub depth-is : depth (played qs r) ≡ s
+  pub limit-is : objectLimit (played qs r) ≡ n
+  pub depth-is : stepLimit (played qs r) ≡ s
   pub settings-are : settings (played qs r) ≡ e
   pub data-replayed : replay (rules n e) s (remains (rules n e) s qs .done) ≡ some (shown (played qs r) .own)
   pub lists-afresh : afresh (rules n e) s (remains (rules n e) s qs .done) ≡ some (shown (played qs r) .lists)
-  pub steps-left : kept (played qs r) ≡ remains (rules n e) s qs .left
-  pub answered : (q : Call Change) → accepted (callTo q (played qs r) .answer) ≡ accepts (rules n e) s (remains (rules n e) s qs) q
-  pub refused-stays : (q : Call Change) → accepted (callTo q (played qs r) .answer) ≡ false → callTo q (played qs r) .bytes ≡ played qs r
+  pub steps-left : keptSteps (played qs r) ≡ remains (rules n e) s qs .left
+  pub answered : (q : Call ChangeGiven) → accepted (callTo q (played qs r) .answer) ≡ accepts (rules n e) s (remains (rules n e) s qs) q
+  pub refused-stays : (q : Call ChangeGiven) → accepted (callTo q (played qs r) .answer) ≡ false → callTo q (played qs r) .bytes ≡ played qs r
   pub undo-refused : remains (rules n e) s qs .left ≡ 0 → undoTo (played qs r) .answer ≡ Refused 11 0 0
   pub undo-done : 0 < remains (rules n e) s qs .left → undoTo (played qs r) .answer ≡ Done 0 false 0
   pub read-back : (i : ℕ) (out : List ℕ) → i < objects (played qs r) → ReadBack (played qs r) out i
 
 module _ (n s rule : ℕ) (m : Mapping) (default : MaybeList) (r : List ℕ) where
-  reached : startOk n s rule (length r) ≡ true → reads default ≡ true → short default ≡ true → (qs : List (Call Change))
+  reached : startOk n s rule (length r) ≡ true → reads default ≡ true → shortIf default ≡ true → (qs : List (Call ChangeGiven))
       → Reached n s (settingsFor rule m default) (front (emptyRoom n s rule m default) r) qs
   unfolding first callTo
   reached ok good few qs =
@@ -261,9 +262,9 @@ module _ (n s rule : ℕ) (m : Mapping) (default : MaybeList) (r : List ℕ) whe
       } in
       let g = all-good n s (settingsFor rule m default) (front (emptyRoom n s rule m default) r) g₀ qs in
       let H = history (rules n (settingsFor rule m default)) (lawful n (settingsFor rule m default)) s qs in
-      let left : kept (played qs (front (emptyRoom n s rule m default) r)) ≡ remains (rules n (settingsFor rule m default)) s qs .left =
+      let left : keptSteps (played qs (front (emptyRoom n s rule m default) r)) ≡ remains (rules n (settingsFor rule m default)) s qs .left =
       sym (shown-kept (played qs (front (emptyRoom n s rule m default) r))) ∙ ap (λ (t : Tree). length (t .kept)) (g .shows) ∙ H .steps-left in
-      let told : (q : Call Change) → accepted (callTo q (played qs (front (emptyRoom n s rule m default) r)) .answer)
+      let accepted-as : (q : Call ChangeGiven) → accepted (callTo q (played qs (front (emptyRoom n s rule m default) r)) .answer)
       ≡ accepts (rules n (settingsFor rule m default)) s (remains (rules n (settingsFor rule m default)) s qs) q =
       λ q. call-good n s (settingsFor rule m default) _ _ q g .1 ∙ H .told q in
       record {
@@ -274,10 +275,10 @@ module _ (n s rule : ℕ) (m : Mapping) (default : MaybeList) (r : List ℕ) whe
         data-replayed = rw (g .shows) (H .data-replayed);
         lists-afresh = rw (g .shows) (H .lists-afresh);
         steps-left = left;
-        answered = told;
+        answered = accepted-as;
         refused-stays = λ q. call-ends _ (g .well) q .stays;
         undo-refused = λ z. undo-11 _ (g .well) (left ∙ z);
-        undo-done = λ z. undo-0 _ (g .well) (omega (arith, left)) (told undo ∙ past-undo n s (settingsFor rule m default) qs z);
+        undo-done = λ z. undo-0 _ (g .well) (omega (arith, left)) (accepted-as undo ∙ past-undo n s (settingsFor rule m default) qs z);
         read-back = λ i out k. read-shown _ out i (g .well) k;
       }
 
@@ -290,25 +291,25 @@ module _ (n s rule : ℕ) (m : Mapping) (default : MaybeList) (r : List ℕ) whe
   pub record Begun : Type 0 where
     pub in-range : startOk n s rule (length r) ≡ true
     pub reads-default : reads default ≡ true
-    pub short-default : short default ≡ true
+    pub short-default : shortIf default ≡ true
     pub bytes-are : startTo n s rule m default r .bytes ≡ front (emptyRoom n s rule m default) r
     pub size-is : length (startTo n s rule m default r .bytes) ≡ length r
 
   abbrev pub empty-tree : Outcome
   empty-tree = record { answer = Done 0 false 0; bytes = front (emptyRoom n s rule m default) r }
 
-  pub start-passes : Passes r (startTo n s rule m default r) empty-tree (startOk n s rule (length r) && (reads default && short default))
+  pub start-passes : Passes r (startTo n s rule m default r) empty-tree (startOk n s rule (length r) && (reads default && shortIf default))
   unfolding startTo
   start-passes =
       then r _ _ empty-tree (startOk n s rule (length r)) _ (need-first (startOk n s rule (length r)) 12 r _)
-      (then r _ _ empty-tree (reads default) (short default) (reads-first default 3 r _) (need-first (short default) 8 r empty-tree))
+      (then r _ _ empty-tree (reads default) (shortIf default) (reads-first default 3 r _) (need-first (shortIf default) 8 r empty-tree))
 
   pub begun : accepted (startTo n s rule m default r .answer) ≡ true → Begun
   unfolding first
   begun h =
       let p = started (startTo n s rule m default r) empty-tree _ start-passes h in
-      let a = both-true (startOk n s rule (length r)) (reads default && short default) (p .0) in
-      let b = both-true (reads default) (short default) (a .1) in
+      let a = both-true (startOk n s rule (length r)) (reads default && shortIf default) (p .0) in
+      let b = both-true (reads default) (shortIf default) (a .1) in
       record {
         in-range = a .0;
         reads-default = b .0;
@@ -326,7 +327,7 @@ module _ (n s rule : ℕ) (m : Mapping) (default : MaybeList) (r : List ℕ) whe
       by o false (stop x) k = ap (λ (y : Outcome). y .bytes) (x .is)
 
   -- whatever tree a start gives, and whatever changes and undos follow
-  pub reaches : accepted (startTo n s rule m default r .answer) ≡ true → (qs : List (Call Change))
+  pub reaches : accepted (startTo n s rule m default r .answer) ≡ true → (qs : List (Call ChangeGiven))
       → Reached n s (settingsFor rule m default) (startTo n s rule m default r .bytes) qs
   reaches h qs =
       let b = begun h in

@@ -15,10 +15,10 @@ use Rattle.list.specs.Answer.{Values, done, refused}
 use Rattle.inherit.specs.Asked.{MaybeList}
 use Rattle.tree.specs.declared.Answer.{Answer}
 use Rattle.tree.specs.declared.Answer.the-variants.{Done}
-use Rattle.tree.specs.Held.{held, blockOk, parentOf, kindOf, markOf, typeOf, ownerOf, groupOf, ownList}
-use Rattle.tree.specs.Room.{objects, kept, own, slot}
+use Rattle.tree.specs.Held.{held, blockOk, parentByteIn, kindByte, markByte, typeOf, ownerOf, groupOf, ownList}
+use Rattle.tree.specs.Room.{objects, keptSteps, ownData, slot}
 use Rattle.tree.specs.Formed.{formed}
-use Rattle.tree.specs.Calls.{Outcome, refuse, told, onObject, answerValues, bytesIf, copied, dataOf, listTo, ownTo, dataTo, countsTo}
+use Rattle.tree.specs.Calls.{Outcome, refuse, toldAs, onObject, answerValues, listBytes, copied, dataOf, listTo, ownTo, dataTo, countsTo}
 use Rattle.tree.specs.Model as Model
 use Rattle.tree.specs.Shown.{settingsIn, parentIn, objectIn, objectsIn, readWith}
 use Rattle.tree.proofs.Blocks.{type-part, block-sound}
@@ -26,20 +26,20 @@ use Rattle.tree.proofs.Answered.{need-yes}
 use Rattle.tree.proofs.Keeps.{Formed, facts-formed}
 use Rattle.tree.proofs.Modelled.{said, told-is, objects-length, object-at, own-long}
 
-bytes-is : (o : MaybeList) → bytesIf o ≡ Model.bytesIf (some o)
-unfolding bytesIf Model.bytesIf
+bytes-is : (o : MaybeList) → listBytes o ≡ Model.bytesIf (some o)
+unfolding listBytes Model.bytesIf
 bytes-is none = refl
 bytes-is (some s) = refl
 
-told-number : (o : MaybeList) → answerValues (told o) .number ≡ 0
-unfolding told
+told-number : (o : MaybeList) → answerValues (toldAs o) .number ≡ 0
+unfolding toldAs
 told-number none = refl
 told-number (some s) = refl
 
 -- ---- own data
 
 -- its first bytes
-first-parts : (b : List ℕ) → 19 ≤ length b → part 0 19 b ≡ (parentOf b ∷ kindOf b ∷ markOf b ∷ []) ++ part 3 16 b
+first-parts : (b : List ℕ) → 19 ≤ length b → part 0 19 b ≡ (parentByteIn b ∷ kindByte b ∷ markByte b ∷ []) ++ part 3 16 b
 unfolding part
 first-parts [] h = absurd (omega arith)
 first-parts (x ∷ []) h = absurd (omega arith)
@@ -68,8 +68,8 @@ pub data-is : (b : List ℕ) → length b ≡ 1184 → blockOk b ≡ true → da
 unfolding dataOf Model.dataBytes
 data-is b n h =
     let s = block-sound b h in
-    rw (first-parts b (omega arith), ← type-part b (omega arith), parent-byte (parentOf b), bit-is (kindOf b) (s .kind), bit-is (markOf b) (s .mark))
-    (append-assoc (parentOf b ∷ kindOf b ∷ markOf b ∷ []) (typeOf b) ((length (ownerOf b) ∷ ownerOf b) ++ (length (groupOf b) ∷ groupOf b)))
+    rw (first-parts b (omega arith), ← type-part b (omega arith), parent-byte (parentByteIn b), bit-is (kindByte b) (s .kind), bit-is (markByte b) (s .mark))
+    (append-assoc (parentByteIn b ∷ kindByte b ∷ markByte b ∷ []) (typeOf b) ((length (ownerOf b) ∷ ownerOf b) ++ (length (groupOf b) ∷ groupOf b)))
 
 -- ---- the answer and the lent bytes of a reading
 
@@ -121,15 +121,15 @@ module _ (r : List ℕ) (F : Formed r) (t : Model.Settings)
   part-as Model.computed-list i out =
       let o = held (slot i r) in
       let l = Model.listOf t (objectsIn r) i in
-      read-as r F i (told o) (Model.told l) (bytesIf o) (Model.bytesIf l) out (told-number o)
+      read-as r F i (toldAs o) (Model.told l) (listBytes o) (Model.bytesIf l) out (told-number o)
       (λ h. (told-is o ∙ ap Model.told (sym (fresh i h)), bytes-is o ∙ ap Model.bytesIf (sym (fresh i h))))
   part-as Model.own-list i out =
-      let o = ownList (own i r) in
+      let o = ownList (ownData i r) in
       let l = Model.object (objectsIn r) i .list in
-      read-as r F i (told o) (Model.told (some l)) (bytesIf o) (Model.bytesIf (some l)) out (told-number o)
+      read-as r F i (toldAs o) (Model.told (some l)) (listBytes o) (Model.bytesIf (some l)) out (told-number o)
       (λ h. (rw (object-at r i h) (told-is o), rw (object-at r i h) (bytes-is o)))
   part-as Model.other-data i out =
-      let b = own i r in
+      let b = ownData i r in
       let m = Model.dataBytes (Model.object (objectsIn r) i) in
       read-as r F i (Done (length (dataOf b)) true 0) (done (length m) 1 0 0) (dataOf b) m out refl
       (λ h.
@@ -137,6 +137,6 @@ module _ (r : List ℕ) (F : Formed r) (t : Model.Settings)
       (rw e refl, e))
 
 -- the counts
-pub counts-as : (r : List ℕ) → Formed r → answerValues (countsTo r) ≡ done (length (objectsIn r)) 1 (kept r) 0
+pub counts-as : (r : List ℕ) → Formed r → answerValues (countsTo r) ≡ done (length (objectsIn r)) 1 (keptSteps r) 0
 unfolding countsTo
 counts-as r F = rw (facts-formed r F, objects-length r) refl

@@ -10,12 +10,13 @@ use Rattle.list.specs.Entry.{access}
 use Rattle.list.specs.List.{checkOf}
 use Rattle.inherit.specs.Asked.{MaybeList}
 use Rattle.inherit.specs.Compute.{ordinary}
+use Rattle.tree.specs.Model.{shortIf}
 use Rattle.tree.specs.General.{bind, tab}
-use Rattle.tree.specs.Held.{New, isDone, blockFor, parentOf}
-use Rattle.tree.specs.Room.{objects, kept, limit, own, slot, step, tagOf, numberOf, savedIn}
-use Rattle.tree.specs.Formed.{placed}
+use Rattle.tree.specs.Held.{New, isDone, blockFor, parentByteIn}
+use Rattle.tree.specs.Room.{objects, keptSteps, objectLimit, ownData, slot, step, stepTag, stepObject, stepData}
+use Rattle.tree.specs.Formed.{placedIn}
 use Rattle.tree.specs.Work.{computed}
-use Rattle.tree.specs.Calls.{Edit, list, mark, owners, short, editAt, editBytes, nobody, Change, add, alter}
+use Rattle.tree.specs.Calls.{Edit, list, mark, owners, editAt, editBytes, nobody, ChangeGiven, add, alter}
 use Rattle.tree.specs.Held.{held}
 use Rattle.tree.proofs.History.{Rules, State}
 
@@ -30,7 +31,7 @@ reads (some s) = isDone (checkOf access s)
 
 -- what a change is given is good
 unfoldable pub fine : Edit → Bool
-fine (list o) = reads o && short o
+fine (list o) = reads o && shortIf o
 fine (mark m) = true
 fine (owners o g) = ordinary o && ordinary g
 
@@ -39,14 +40,14 @@ when true a = some a
 when false a = none
 
 -- own data of all objects after a change, with object limit n
-unfoldable pub change : ℕ → Change → Blocks → Option Blocks
+unfoldable pub change : ℕ → ChangeGiven → Blocks → Option Blocks
 change n (add new) d =
-    when (placed nobody (λ j. getD d j []) (length d) (new .parent)
+    when (placedIn nobody (λ j. getD d j []) (length d) (new .parent)
     && (ltb (length d) n
     && (reads (new .list)
     && (ordinary (new .owner)
     && (ordinary (new .group)
-    && short (new .list))))))
+    && shortIf (new .list))))))
     (d ++ (blockFor new ∷ []))
 change n (alter i e) d = when (ltb i (length d) && fine e) (set d i (putAt (editAt e) (editBytes e) (getD d i [])))
 
@@ -56,7 +57,7 @@ pub data Undo : Type 0 where
   again : ℕ → List ℕ → Undo
 
 -- the step that a change keeps, and what undo makes of own data by it
-unfoldable pub keep : Change → Blocks → Undo
+unfoldable pub keep : ChangeGiven → Blocks → Undo
 keep (add new) d = off
 keep (alter i e) d = again i (getD d i [])
 
@@ -68,7 +69,7 @@ back (again i b) d = set d i b
 unfoldable pub fromRoot : List ℕ → Blocks → ℕ → ℕ → Option MaybeList
 fromRoot e d zero i = none
 fromRoot e d (suc more) i =
-    bind (cond (eqb (parentOf (getD d i [])) 255) (some none) (fromRoot e d more (parentOf (getD d i []))))
+    bind (cond (eqb (parentByteIn (getD d i [])) 255) (some none) (fromRoot e d more (parentByteIn (getD d i []))))
     (λ p. computed e p (getD d i []))
 
 -- f 0, f 1 and so on below n, where all of them are there
@@ -81,14 +82,14 @@ unfoldable pub work : List ℕ → Blocks → Option (List MaybeList)
 work e d = gather (length d) (fromRoot e d (length d))
 
 -- the rules of a tree with object limit n and the settings e
-unfoldable pub rules : ℕ → List ℕ → Rules Change Blocks (List MaybeList) Undo
+unfoldable pub rules : ℕ → List ℕ → Rules ChangeGiven Blocks (List MaybeList) Undo
 rules n e = record { empty = []; bare = []; change = change n; work = work e; keep = keep; back = back }
 
 -- ---- the tree that a room shows
 
 -- what a step in the room puts back
 unfoldable pub undoIn : List ℕ → Undo
-undoIn u = cond (eqb (tagOf u) 1) off (again (numberOf u) (savedIn u))
+undoIn u = cond (eqb (stepTag u) 1) off (again (stepObject u) (stepData u))
 
 abbrev pub Tree : Type 0
 Tree = State Blocks (List MaybeList) Undo
@@ -97,7 +98,7 @@ Tree = State Blocks (List MaybeList) Undo
 unfoldable pub shown : List ℕ → Tree
 shown r =
     record {
-      own = tab (objects r) (λ i. own i r);
+      own = tab (objects r) (λ i. ownData i r);
       lists = tab (objects r) (λ i. held (slot i r));
-      kept = tab (kept r) (λ j. undoIn (step (limit r) j r));
+      kept = tab (keptSteps r) (λ j. undoIn (step (objectLimit r) j r));
     }

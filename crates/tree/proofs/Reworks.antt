@@ -12,9 +12,9 @@ use Rattle.list.specs.Bytes.{part, putAt}
 use Rattle.list.proofs.Places.{split, length-put, part-put-same, part-put-before, part-put-after}
 use Rattle.inherit.specs.Asked.{MaybeList}
 use Rattle.tree.specs.General.{bind, tab}
-use Rattle.tree.specs.Held.{held, slotFor, slotOk, parentOf}
-use Rattle.tree.specs.Room.{ownAt, slotAt, settings, own, slot}
-use Rattle.tree.specs.Work.{computed, above, laid, rework, reworked}
+use Rattle.tree.specs.Held.{held, slotFor, slotOk, parentByteIn}
+use Rattle.tree.specs.Room.{ownAt, slotAt, settings, ownData, slot}
+use Rattle.tree.specs.Work.{computed, aboveIn, laid, rework, reworked}
 use Rattle.tree.proofs.Computed.{computed-length, computed-held, computed-slot}
 use Rattle.tree.proofs.Tab.{length-tab, getD-tab, tab-ext}
 use Rattle.tree.proofs.Paths.{parentList, nextList, inOrder, in-order-same}
@@ -25,13 +25,13 @@ Clear n a k = (i : ℕ) → i < n → (a + k ≤ slotAt i) ⊎ (slotAt i + 1027 
 
 -- w₁ is w with the first n lists worked out
 pub record Worked (n : ℕ) (w w₁ : List ℕ) : Type 0 where
-  pub lists : inOrder (settings w) (tab n (λ i. own i w)) n ≡ some (tab n (λ i. held (slot i w₁)))
+  pub lists : inOrder (settings w) (tab n (λ i. ownData i w)) n ≡ some (tab n (λ i. held (slot i w₁)))
   pub size : length w₁ ≡ length w
   pub rest : (a k : ℕ) → Clear n a k → part a k w₁ ≡ part a k w
   pub slots : (i : ℕ) → i < n → slotOk (slot i w₁) ≡ true
 
 abbrev pub Linked : ℕ → List ℕ → Option (List ℕ) → Type 0
-Linked n w none = inOrder (settings w) (tab n (λ i. own i w)) n ≡ none
+Linked n w none = inOrder (settings w) (tab n (λ i. ownData i w)) n ≡ none
 Linked n w (some w₁) = Worked n w w₁
 
 -- one object more at the end: its list comes from those before it
@@ -44,10 +44,10 @@ in-order-next e n f =
     )
 
 -- the parent's list, among those worked out so far
-above-list : (n : ℕ) (w : List ℕ) → above n w ≡ parentList (tab n (λ i. held (slot i w))) (own n w)
-unfolding above parentList
+above-list : (n : ℕ) (w : List ℕ) → aboveIn n w ≡ parentList (tab n (λ i. held (slot i w))) (ownData n w)
+unfolding aboveIn parentList
 above-list n w =
-    let p = parentOf (own n w) in
+    let p = parentByteIn (ownData n w) in
     let l = length-tab n (λ i. held (slot i w)) in
     split n p
     (λ h. rw (l, le-ltb p n h))
@@ -65,22 +65,22 @@ module _ (n : ℕ) (w w₁ : List ℕ) (k : Worked n w w₁) where
   unfolding settings
   settings-stay = k .rest 4 1044 (λ i h. inl (omega arith))
 
-  pub own-stays : (i : ℕ) → own i w₁ ≡ own i w
-  unfolding own
+  pub own-stays : (i : ℕ) → ownData i w₁ ≡ ownData i w
+  unfolding ownData
   own-stays i = k .rest (ownAt i) 1184 (λ j h. split i j (λ q. inl (omega arith)) (λ q. inr (omega arith)))
 
   -- one turn of the order
-  turn : (x : Option MaybeList) → computed (settings w₁) (above n w₁) (own n w₁) ≡ x
-      → inOrder (settings w) (tab (suc n) (λ i. own i w)) (suc n) ≡ bind x (λ o. some (tab n (λ i. held (slot i w₁)) ++ (o ∷ [])))
+  turn : (x : Option MaybeList) → computed (settings w₁) (aboveIn n w₁) (ownData n w₁) ≡ x
+      → inOrder (settings w) (tab (suc n) (λ i. ownData i w)) (suc n) ≡ bind x (λ o. some (tab n (λ i. held (slot i w₁)) ++ (o ∷ [])))
   unfolding bind
   turn x e =
-      let f : computed (settings w) (parentList (tab n (λ i. held (slot i w₁))) (own n w)) (own n w) ≡ x =
+      let f : computed (settings w) (parentList (tab n (λ i. held (slot i w₁))) (ownData n w)) (ownData n w) ≡ x =
       rw (← settings-stay, ← own-stays n, ← above-list n w₁) e in
-      in-order-next (settings w) n (λ i. own i w) ∙ rw (k .lists, f)
+      in-order-next (settings w) n (λ i. ownData i w) ∙ rw (k .lists, f)
 
 -- what is to be known of computed lists
 after-one : (n : ℕ) (w : List ℕ) → ownAt (suc n) ≤ length w → (w₁ : List ℕ) → Worked n w w₁
-    → (x : Option MaybeList) → computed (settings w₁) (above n w₁) (own n w₁) ≡ x → Linked (suc n) w (laid n w₁ x)
+    → (x : Option MaybeList) → computed (settings w₁) (aboveIn n w₁) (ownData n w₁) ≡ x → Linked (suc n) w (laid n w₁ x)
 unfolding laid bind slot tab
 after-one n w h w₁ k none e = turn n w w₁ k none e
 after-one n w h w₁ k (some o) e =
@@ -109,8 +109,8 @@ after-one n w h w₁ k (some o) e =
 
 more : (n : ℕ) (w : List ℕ) → ownAt (suc n) ≤ length w → (o : Option (List ℕ)) → Linked n w o → Linked (suc n) w (bind o (rework n))
 unfolding bind rework
-more n w h none k = in-order-next (settings w) n (λ i. own i w) ∙ rw k
-more n w h (some w₁) k = after-one n w h w₁ k (computed (settings w₁) (above n w₁) (own n w₁)) refl
+more n w h none k = in-order-next (settings w) n (λ i. ownData i w) ∙ rw k
+more n w h (some w₁) k = after-one n w h w₁ k (computed (settings w₁) (aboveIn n w₁) (ownData n w₁)) refl
 
 pub linked : (n : ℕ) (w : List ℕ) → ownAt n ≤ length w → Linked n w (reworked n w)
 unfolding reworked tab inOrder

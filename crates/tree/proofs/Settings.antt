@@ -12,10 +12,10 @@ use Rattle.list.proofs.Little.{le-append, length-spell}
 use Rattle.inherit.specs.declared.Mapping.{Mapping}
 use Rattle.inherit.specs.Asked.{MaybeList}
 use Rattle.inherit.specs.Compute.{ruleOk}
+use Rattle.tree.specs.Model.{shortIf}
 use Rattle.tree.specs.Held.{held, slotFor}
 use Rattle.tree.specs.Room.{ruleOf, mappingOf, defaultSlot, defaultOf, settingsFor}
 use Rattle.tree.specs.Formed.{settingsOk}
-use Rattle.tree.specs.Calls.{short}
 use Rattle.tree.specs.Shown.{word}
 use Rattle.tree.proofs.Replay.{reads}
 use Rattle.tree.proofs.Lays.{length-slot}
@@ -55,7 +55,7 @@ module _ (rule : ℕ) (m : Mapping) (default : MaybeList) where
       let f = spell 4 (m .write) ++ e in
       rw (word-of (m .read) f, word-of (m .write) e, word-of (m .execute) d, word-of (m .all) c) refl
 
-  module _ (s : short default ≡ true) where
+  module _ (s : shortIf default ≡ true) where
     pub default-slot : defaultSlot (settingsFor rule m default) ≡ slotFor default
     unfolding settingsFor
     default-slot =

@@ -9,7 +9,7 @@ use lib.Seq.{getD-set-same}
 use borrow.Author.Tests.{lt-ltb}
 use Rattle.list.specs.Bytes.{part, putAt}
 use Rattle.list.proofs.Places.{split, length-part, length-put, part-put-same, part-put-before, part-put-after, part-put-in, part-part, put-one, byte-same}
-use Rattle.tree.specs.Room.{limit, depth, kept, stepsAt, step}
+use Rattle.tree.specs.Room.{objectLimit, stepLimit, keptSteps, stepsAt, step}
 use Rattle.tree.specs.Calls.{shifted, pushed, popped}
 use Rattle.tree.proofs.Areas.{Ready}
 
@@ -19,18 +19,18 @@ Aside n a k = ((a + k ≤ 3) ⊎ (4 ≤ a)) × (a + k ≤ stepsAt n)
 
 -- w₁ is w with u in front of the steps
 pub record Pushed (u w w₁ : List ℕ) : Type 0 where
-  pub same : (a k : ℕ) → Aside (limit w) a k → part a k w₁ ≡ part a k w
+  pub same : (a k : ℕ) → Aside (objectLimit w) a k → part a k w₁ ≡ part a k w
   pub size : length w₁ ≡ length w
-  pub count : kept w₁ ≡ min (depth w) (suc (kept w))
-  pub first : 0 < depth w → step (limit w) 0 w₁ ≡ u
-  pub later : (j : ℕ) → suc j < depth w → step (limit w) (suc j) w₁ ≡ step (limit w) j w
+  pub count : keptSteps w₁ ≡ min (stepLimit w) (suc (keptSteps w))
+  pub first : 0 < stepLimit w → step (objectLimit w) 0 w₁ ≡ u
+  pub later : (j : ℕ) → suc j < stepLimit w → step (objectLimit w) (suc j) w₁ ≡ step (objectLimit w) j w
 
 -- w₁ is w with the latest step taken off
 pub record Popped (w w₁ : List ℕ) : Type 0 where
-  pub same : (a k : ℕ) → Aside (limit w) a k → part a k w₁ ≡ part a k w
+  pub same : (a k : ℕ) → Aside (objectLimit w) a k → part a k w₁ ≡ part a k w
   pub size : length w₁ ≡ length w
-  pub count : kept w₁ ≡ kept w - 1
-  pub later : (j : ℕ) → suc j < depth w → step (limit w) j w₁ ≡ step (limit w) (suc j) w
+  pub count : keptSteps w₁ ≡ keptSteps w - 1
+  pub later : (j : ℕ) → suc j < stepLimit w → step (objectLimit w) j w₁ ≡ step (objectLimit w) (suc j) w
 
 -- a byte stored: the parts that do not hold it stay
 pub part-set : (a k c x : ℕ) (l : List ℕ) → (a + k ≤ c) ⊎ (c < a) → c < length l → part a k (set l c x) ≡ part a k l
@@ -44,7 +44,7 @@ module _ (at x : ℕ) (b w : List ℕ) (far : 4 ≤ at) (fits : at + length b �
   moved-size : length (set (putAt at b w) 3 x) ≡ length w
   moved-size = length-set (putAt at b w) 3 x ∙ length-put at b w fits
 
-  moved-count : kept (set (putAt at b w) 3 x) ≡ x
+  moved-count : keptSteps (set (putAt at b w) 3 x) ≡ x
   moved-count = getD-set-same (putAt at b w) 3 x 0 (rw (length-put at b w fits) (omega arith))
 
   moved-part : (a k : ℕ) → (a + k ≤ 3) ⊎ (4 ≤ a) → part a k (set (putAt at b w) 3 x) ≡ part a k (putAt at b w)
@@ -56,20 +56,20 @@ module _ (at x : ℕ) (b w : List ℕ) (far : 4 ≤ at) (fits : at + length b �
 -- ---- a step in front
 
 module _ (u w : List ℕ) (ready : Ready w) (lu : length u ≡ 1186) where
-  module _ (p : 0 < depth w) where
-    rest-length : length (part (stepsAt (limit w)) ((depth w - 1) * 1186) w) ≡ (depth w - 1) * 1186
-    rest-length = length-part (stepsAt (limit w)) ((depth w - 1) * 1186) w (omega arith)
+  module _ (p : 0 < stepLimit w) where
+    rest-length : length (part (stepsAt (objectLimit w)) ((stepLimit w - 1) * 1186) w) ≡ (stepLimit w - 1) * 1186
+    rest-length = length-part (stepsAt (objectLimit w)) ((stepLimit w - 1) * 1186) w (omega arith)
 
-    rest-fits : stepsAt (limit w) + 1186 + length (part (stepsAt (limit w)) ((depth w - 1) * 1186) w) ≤ length w
+    rest-fits : stepsAt (objectLimit w) + 1186 + length (part (stepsAt (objectLimit w)) ((stepLimit w - 1) * 1186) w) ≤ length w
     rest-fits = rw rest-length (omega arith)
 
     shifted-size : length (shifted w) ≡ length w
     unfolding shifted
     shifted-size = moved-size _ _ _ w (omega arith) rest-fits
 
-    pushed-as : pushed u w ≡ putAt (stepsAt (limit w)) u (shifted w)
+    pushed-as : pushed u w ≡ putAt (stepsAt (objectLimit w)) u (shifted w)
     unfolding pushed
-    pushed-as = rw (lt-ltb 0 (depth w) p)
+    pushed-as = rw (lt-ltb 0 (stepLimit w) p)
 
     pushed-some : Pushed u w (pushed u w)
     unfolding shifted step
@@ -80,28 +80,28 @@ module _ (u w : List ℕ) (ready : Ready w) (lu : length u ≡ 1186) where
         subst (λ (x : List ℕ). Pushed u w x) (sym pushed-as)
         (record {
           same = λ a k c.
-              part-put-before a k (stepsAt (limit w)) u (shifted w) (c .1) (omega arith)
+              part-put-before a k (stepsAt (objectLimit w)) u (shifted w) (c .1) (omega arith)
               ∙ moved-same _ _ _ w (omega arith) f a k (c .0) (omega arith);
-          size = length-put (stepsAt (limit w)) u (shifted w) (omega arith) ∙ l;
+          size = length-put (stepsAt (objectLimit w)) u (shifted w) (omega arith) ∙ l;
           count =
-              let m : min (depth w) (kept w + 1) ≡ min (depth w) (suc (kept w)) = omega arith in
-              byte-same 3 (putAt (stepsAt (limit w)) u (shifted w)) (shifted w)
-              (part-put-before 3 1 (stepsAt (limit w)) u (shifted w) (omega arith) (omega arith))
+              let m : min (stepLimit w) (keptSteps w + 1) ≡ min (stepLimit w) (suc (keptSteps w)) = omega arith in
+              byte-same 3 (putAt (stepsAt (objectLimit w)) u (shifted w)) (shifted w)
+              (part-put-before 3 1 (stepsAt (objectLimit w)) u (shifted w) (omega arith) (omega arith))
               ∙ moved-count _ _ _ w (omega arith) f
               ∙ m;
           first = λ q.
-              let z : stepsAt (limit w) + 0 * 1186 ≡ stepsAt (limit w) = omega arith in
-              rw z (part-put-same (stepsAt (limit w)) 1186 u (shifted w) lu (omega arith));
+              let z : stepsAt (objectLimit w) + 0 * 1186 ≡ stepsAt (objectLimit w) = omega arith in
+              rw z (part-put-same (stepsAt (objectLimit w)) 1186 u (shifted w) lu (omega arith));
           later = λ j q.
-              let a : stepsAt (limit w) + suc j * 1186 ≡ stepsAt (limit w) + 1186 + j * 1186 = omega arith in
-              part-put-after (stepsAt (limit w) + suc j * 1186) 1186 (stepsAt (limit w)) u (shifted w) (omega arith) (omega arith)
-              ∙ moved-part _ _ _ w (omega arith) f (stepsAt (limit w) + suc j * 1186) 1186 (inr (omega arith))
-              ∙ rw a (part-put-in (stepsAt (limit w) + 1186) (j * 1186) 1186 (part (stepsAt (limit w)) ((depth w - 1) * 1186) w) w (omega arith) f)
-              ∙ part-part (stepsAt (limit w)) ((depth w - 1) * 1186) (j * 1186) 1186 w (omega arith);
+              let a : stepsAt (objectLimit w) + suc j * 1186 ≡ stepsAt (objectLimit w) + 1186 + j * 1186 = omega arith in
+              part-put-after (stepsAt (objectLimit w) + suc j * 1186) 1186 (stepsAt (objectLimit w)) u (shifted w) (omega arith) (omega arith)
+              ∙ moved-part _ _ _ w (omega arith) f (stepsAt (objectLimit w) + suc j * 1186) 1186 (inr (omega arith))
+              ∙ rw a (part-put-in (stepsAt (objectLimit w) + 1186) (j * 1186) 1186 (part (stepsAt (objectLimit w)) ((stepLimit w - 1) * 1186) w) w (omega arith) f)
+              ∙ part-part (stepsAt (objectLimit w)) ((stepLimit w - 1) * 1186) (j * 1186) 1186 w (omega arith);
         })
 
   -- where no step may be kept
-  pushed-none : depth w ≡ 0 → Pushed u w (pushed u w)
+  pushed-none : stepLimit w ≡ 0 → Pushed u w (pushed u w)
   unfolding pushed
   pushed-none z =
       let e : pushed u w ≡ w = rw z in
@@ -109,27 +109,27 @@ module _ (u w : List ℕ) (ready : Ready w) (lu : length u ≡ 1186) where
       (record { same = λ a k c. refl; size = refl; count = omega arith; first = λ q. absurd (omega arith); later = λ j q. absurd (omega arith) })
 
   pub is-pushed : Pushed u w (pushed u w)
-  is-pushed = split (depth w) 0 (λ h. pushed-none (omega arith)) (λ h. pushed-some h)
+  is-pushed = split (stepLimit w) 0 (λ h. pushed-none (omega arith)) (λ h. pushed-some h)
 
 -- ---- the latest step off
 
-module _ (w : List ℕ) (ready : Ready w) (p : 0 < kept w) where
-  left-length : length (part (stepsAt (limit w) + 1186) ((depth w - 1) * 1186) w) ≡ (depth w - 1) * 1186
-  left-length = length-part (stepsAt (limit w) + 1186) ((depth w - 1) * 1186) w (omega arith)
+module _ (w : List ℕ) (ready : Ready w) (p : 0 < keptSteps w) where
+  left-length : length (part (stepsAt (objectLimit w) + 1186) ((stepLimit w - 1) * 1186) w) ≡ (stepLimit w - 1) * 1186
+  left-length = length-part (stepsAt (objectLimit w) + 1186) ((stepLimit w - 1) * 1186) w (omega arith)
 
   pub is-popped : Popped w (popped w)
   unfolding popped step
   is-popped =
       let n = left-length in
-      let f : stepsAt (limit w) + length (part (stepsAt (limit w) + 1186) ((depth w - 1) * 1186) w) ≤ length w = rw n (omega arith) in
+      let f : stepsAt (objectLimit w) + length (part (stepsAt (objectLimit w) + 1186) ((stepLimit w - 1) * 1186) w) ≤ length w = rw n (omega arith) in
       record {
         same = λ a k c. moved-same _ _ _ w (omega arith) f a k (c .0) (c .1);
         size = moved-size _ _ _ w (omega arith) f;
         count = moved-count _ _ _ w (omega arith) f;
         later = λ j q.
-            let a : stepsAt (limit w) + 1186 + j * 1186 ≡ stepsAt (limit w) + suc j * 1186 = omega arith in
-            moved-part _ _ _ w (omega arith) f (stepsAt (limit w) + j * 1186) 1186 (inr (omega arith))
-            ∙ part-put-in (stepsAt (limit w)) (j * 1186) 1186 (part (stepsAt (limit w) + 1186) ((depth w - 1) * 1186) w) w (omega arith) f
-            ∙ part-part (stepsAt (limit w) + 1186) ((depth w - 1) * 1186) (j * 1186) 1186 w (omega arith)
+            let a : stepsAt (objectLimit w) + 1186 + j * 1186 ≡ stepsAt (objectLimit w) + suc j * 1186 = omega arith in
+            moved-part _ _ _ w (omega arith) f (stepsAt (objectLimit w) + j * 1186) 1186 (inr (omega arith))
+            ∙ part-put-in (stepsAt (objectLimit w)) (j * 1186) 1186 (part (stepsAt (objectLimit w) + 1186) ((stepLimit w - 1) * 1186) w) w (omega arith) f
+            ∙ part-part (stepsAt (objectLimit w) + 1186) ((stepLimit w - 1) * 1186) (j * 1186) 1186 w (omega arith)
             ∙ rw a;
       }

@@ -18,8 +18,8 @@ use Rattle.list.proofs.Sids.{identity-zero, one-sid, sid-most}
 use Rattle.list.proofs.Tests.{both-true}
 use Rattle.inherit.specs.Asked.{MaybeList, lent}
 use Rattle.inherit.specs.Compute.{ordinary}
+use Rattle.tree.specs.Model.{shortIf}
 use Rattle.tree.specs.Held.{hasList, bytesIn, held, slotFor, isDone, slotOk, idIn, idFor, idOk}
-use Rattle.tree.specs.Calls.{short}
 use Rattle.tree.proofs.Replay.{reads}
 use Rattle.tree.proofs.Lays.{length-padded, length-id}
 
@@ -59,8 +59,8 @@ module _ (s : List ℕ) (h : length s ≤ 1024) where
   unfolding bytesIn slotFor spell part
   slot-bytes = ap (λ (n : ℕ). part 0 n (part 3 1024 (slotFor (some s)))) slot-size ∙ front-of s 1024 (1024 - length s) (length-padded 1024 s h)
 
-pub held-slot : (o : MaybeList) → short o ≡ true → held (slotFor o) ≡ o
-unfolding slotFor short
+pub held-slot : (o : MaybeList) → shortIf o ≡ true → held (slotFor o) ≡ o
+unfolding slotFor shortIf
 held-slot none h = zeros-absent 1027 (omega arith)
 held-slot (some s) h = ap some (slot-bytes s (leb-true (length s) 1024 h))
 
@@ -69,8 +69,8 @@ tagged : (s : List ℕ) → getD s 0 0 ≡ 1 → slotOk s ≡ (leb (le 2 (drop 1
 unfolding slotOk
 tagged s e = rw e
 
-pub slot-good : (o : MaybeList) → short o ≡ true → reads o ≡ true → slotOk (slotFor o) ≡ true
-unfolding short reads
+pub slot-good : (o : MaybeList) → shortIf o ≡ true → reads o ≡ true → slotOk (slotFor o) ≡ true
+unfolding shortIf reads
 slot-good none h r = zeros-slot
 slot-good (some s) h r =
     let m = leb-true (length s) 1024 h in

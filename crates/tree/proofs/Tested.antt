@@ -14,8 +14,8 @@ use Rattle.list.proofs.Places.{part-most}
 use Rattle.list.proofs.Tests.{both-true, false-or}
 use Rattle.tree.specs.General.{every}
 use Rattle.tree.specs.Held.{bytesIn}
-use Rattle.tree.specs.Room.{limit, objects, kept, settings, own, step, tagOf}
-use Rattle.tree.specs.Formed.{headOk, Head, settingsOk, objectOk, stepOk, standing, stepsOk, formed}
+use Rattle.tree.specs.Room.{objectLimit, objects, keptSteps, settings, ownData, step, stepTag}
+use Rattle.tree.specs.Formed.{countsOk, Head, settingsOk, objectOk, stepOk, standing, stepsOk, formed}
 
 -- ---- a callee's answer, tested by `!`
 
@@ -27,8 +27,8 @@ passed {x} e n = sym e ∙ not-false x n
 
 -- ---- the head of a room
 
-pub head-says : (r : List ℕ) → headOk r ≡ true → Head r
-unfolding headOk
+pub head-says : (r : List ℕ) → countsOk r ≡ true → Head r
+unfolding countsOk
 head-says r e =
     let a = both-true _ _ e in
     let b = both-true _ _ (a .1) in
@@ -46,8 +46,8 @@ head-says r e =
       room-enough = leb-true _ _ (g .1);
     }
 
-pub head-said : (r : List ℕ) → Head r → headOk r ≡ true
-unfolding headOk
+pub head-said : (r : List ℕ) → Head r → countsOk r ≡ true
+unfolding countsOk
 head-said r h =
     simp (
       le-leb _ _ (h .long),
@@ -59,16 +59,16 @@ head-said r h =
       le-leb _ _ (h .room-enough),
     )
 
-pub head-no : (r : List ℕ) → (Head r → ⊥) → false ≡ headOk r
-head-no r f = sym (false-or (headOk r) (λ e. f (head-says r e)))
+pub head-no : (r : List ℕ) → (Head r → ⊥) → false ≡ countsOk r
+head-no r f = sym (false-or (countsOk r) (λ e. f (head-says r e)))
 
 -- ---- a well-formed room
 
 pub record Forms (r : List ℕ) : Type 0 where
-  pub head-ok : headOk r ≡ true
+  pub head-ok : countsOk r ≡ true
   pub settings-ok : settingsOk (settings r) ≡ true
   pub objects-ok : every (objectOk r) (objects r) ≡ true
-  pub steps-ok : stepsOk (λ i. own i r) (λ j. step (limit r) j r) (kept r) 0 (objects r) ≡ true
+  pub steps-ok : stepsOk (λ i. ownData i r) (λ j. step (objectLimit r) j r) (keptSteps r) 0 (objects r) ≡ true
 
 pub formed-parts : (r : List ℕ) → formed r ≡ true → Forms r
 unfolding formed
@@ -123,7 +123,7 @@ steps-all f g m j c h =
 
 -- no more stand before a step than after it
 pub standing-most : (c : ℕ) (u : List ℕ) → standing c u ≤ c
-standing-most c u = by (eqb (tagOf u) 1)
+standing-most c u = by (eqb (stepTag u) 1)
   where
     by : (b : Bool) → cond b (c - 1) c ≤ c
     by true = omega arith

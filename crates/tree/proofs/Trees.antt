@@ -144,11 +144,11 @@ worked =
 -- ---- over the calls, in any room that is large enough
 
 -- what calls answer one after another, the latest first
-unfoldable pub answersOn : List Shown.Call → List ℕ → List Values
+unfoldable pub answersOn : List Shown.Request → List ℕ → List Values
 answersOn [] r = []
 answersOn (q ∷ qs) r = answerTo q (playedOn qs r) ∷ answersOn qs r
 
-all-answered : (b : Begin) (r : List ℕ) → accepted (startWith b r .answer) ≡ true → (qs : List Shown.Call)
+all-answered : (b : Begin) (r : List ℕ) → accepted (startWith b r .answer) ≡ true → (qs : List Shown.Request)
     → answersOn qs (startWith b r .bytes) ≡ answers (begun (settingsFrom b)) (map (meant (length r)) qs)
 unfolding answersOn answers
 all-answered b r h [] = refl
@@ -169,7 +169,7 @@ begins d r h g =
     started-as : startAnswer (settingsFrom (begin d)) (leb (roomFor 3 16) (length r)) ≡ done 0 0 0 0
     started-as = rw (le-leb (roomFor 3 16) (length r) h) g
 
-abbrev made : ℕ → Bool → MaybeList → Shown.Call
+abbrev made : ℕ → Bool → MaybeList → Shown.Request
 made parent mark list =
     Shown.change (Change·add (record { parent = parent; container = true; mark = mark; type = replicate 16 0; owner = system; group = system; list = list }))
 
@@ -187,7 +187,7 @@ module _ (r : List ℕ) (h : roomFor 3 16 ≤ length r) where
   good-plain = refl
 
   -- K8 and K9: a container with an own list below the root; the mark taken off, undone; what is read back
-  abbrev K8-calls : List Shown.Call
+  abbrev K8-calls : List Shown.Request
   K8-calls = made 0 true (some plain-list) ∷ made 0xFFFFFFFF false (some (parentWith 0x03)) ∷ []
 
   pub K8-answers : answersOn (Shown.undo ∷ Shown.change (alter 1 (Edit·mark false)) ∷ K8-calls) (startWith (begin none) r .bytes)

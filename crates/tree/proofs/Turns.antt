@@ -10,45 +10,45 @@ use native.Mathlib.Omega.{arith}
 use lib.Dec.{eqb, ltb}
 use borrow.Author.Tests.{eq-eqb, ne-eqb, lt-ltb, eqb-true, ltb-true}
 use Rattle.list.proofs.Tests.{both-true}
-use Rattle.tree.specs.Held.{blockOk, parentOf, kindOf}
-use Rattle.tree.specs.Room.{tagOf, numberOf, savedIn}
-use Rattle.tree.specs.Formed.{placed, standing, stepsOk}
+use Rattle.tree.specs.Held.{blockOk, parentByteIn, kindByte}
+use Rattle.tree.specs.Room.{stepTag, stepObject, stepData}
+use Rattle.tree.specs.Formed.{placedIn, standing, stepsOk}
 use Rattle.tree.proofs.Applied.{upd, upd-same, upd-other, ahead, Alike, alike-same, alike-upd, Adds, Again, step-facts, step-add, step-again}
 use Rattle.tree.proofs.Applied.{standing-add, standing-again, steps-same, steps-off, steps-on}
 
 -- ---- a place under a parent
 
 abbrev pub Placed : ℕ → (ℕ → List ℕ) → ℕ → ℕ → Type 0
-Placed nobody f i p = ((i ≡ 0) × (p ≡ nobody)) ⊎ ((0 < i) × ((p < i) × (kindOf (f p) ≡ 1)))
+Placed nobody f i p = ((i ≡ 0) × (p ≡ nobody)) ⊎ ((0 < i) × ((p < i) × (kindByte (f p) ≡ 1)))
 
 module _ (k : ℕ) (f : ℕ → List ℕ) (i p : ℕ) where
-  pub placed-facts : placed k f i p ≡ true → Placed k f i p
-  unfolding placed
+  pub placed-facts : placedIn k f i p ≡ true → Placed k f i p
+  unfolding placedIn
   placed-facts h = by (eqb i 0) refl h
     where
-      by : (b : Bool) → eqb i 0 ≡ b → cond b (eqb p k) (ltb p i && eqb (kindOf (f p)) 1) ≡ true → Placed k f i p
+      by : (b : Bool) → eqb i 0 ≡ b → cond b (eqb p k) (ltb p i && eqb (kindByte (f p)) 1) ≡ true → Placed k f i p
       by true e t = inl (eqb-true _ _ e, eqb-true _ _ t)
       by false e t =
           let b = both-true _ _ t in
           let q : p < i = ltb-true _ _ (b .0) in
           inr (omega arith, (q, eqb-true _ _ (b .1)))
 
-  pub placed-from : Placed k f i p → placed k f i p ≡ true
-  unfolding placed
+  pub placed-from : Placed k f i p → placedIn k f i p ≡ true
+  unfolding placedIn
   placed-from (inl (e, q)) = rw (eq-eqb i 0 e) (eq-eqb p k q)
-  placed-from (inr (h, (q, e))) = rw (ne-eqb i 0 (λ z. omega arith), lt-ltb p i q) (eq-eqb (kindOf (f p)) 1 e)
+  placed-from (inr (h, (q, e))) = rw (ne-eqb i 0 (λ z. omega arith), lt-ltb p i q) (eq-eqb (kindByte (f p)) 1 e)
 
-pub placed-same : (k : ℕ) (f f′ : ℕ → List ℕ) (i p : ℕ) → ((j : ℕ) → j < i → kindOf (f j) ≡ kindOf (f′ j)) → placed k f i p ≡ true → placed k f′ i p ≡ true
+pub placed-same : (k : ℕ) (f f′ : ℕ → List ℕ) (i p : ℕ) → ((j : ℕ) → j < i → kindByte (f j) ≡ kindByte (f′ j)) → placedIn k f i p ≡ true → placedIn k f′ i p ≡ true
 placed-same k f f′ i p h e = by (placed-facts k f i p e)
   where
-    by : Placed k f i p → placed k f′ i p ≡ true
+    by : Placed k f i p → placedIn k f′ i p ≡ true
     by (inl q) = placed-from k f′ i p (inl q)
     by (inr q) = placed-from k f′ i p (inr (q .0, (q .1 .0, sym (h p (q .1 .0)) ∙ q .1 .1)))
 
 -- ---- own data of n objects, each good by itself and in its place
 
 abbrev pub Owned : ℕ → (ℕ → List ℕ) → Type 0
-Owned n f = (i : ℕ) → i < n → (blockOk (f i) ≡ true) × (placed 255 f i (parentOf (f i)) ≡ true)
+Owned n f = (i : ℕ) → i < n → (blockOk (f i) ≡ true) × (placedIn 255 f i (parentByteIn (f i)) ≡ true)
 
 -- an edit, or own data put back
 pub owned-put : (n i : ℕ) (x : List ℕ) (f : ℕ → List ℕ) → Owned n f → i < n → blockOk x ≡ true → Alike x (f i) → Owned n (upd i x f)
@@ -60,17 +60,17 @@ owned-put n i x f o h b a j k = (block, placed-same 255 f (upd i x f) j _ (λ l 
       | no e ↦ rw (upd-other i x f j e) (o j k .0)
     ]
 
-    place : placed 255 f j (parentOf (upd i x f j)) ≡ true
+    place : placedIn 255 f j (parentByteIn (upd i x f j)) ≡ true
     place = rw (← alike-upd i x f a j .parent) (o j k .1)
 
 -- objects taken off
 pub owned-off : (n m : ℕ) (f f′ : ℕ → List ℕ) → Owned n f → m ≤ n → ((j : ℕ) → j < m → f j ≡ f′ j) → Owned m f′
 owned-off n m f f′ o h e i k =
     let a = o i (omega arith) in
-    rw (← e i k) (a .0, placed-same 255 f f′ i _ (λ j q. ap kindOf (e j (omega arith))) (a .1))
+    rw (← e i k) (a .0, placed-same 255 f f′ i _ (λ j q. ap kindByte (e j (omega arith))) (a .1))
 
 -- one more
-pub owned-add : (n p : ℕ) (x : List ℕ) (f : ℕ → List ℕ) → Owned n f → n ≤ 64 → blockOk x ≡ true → placed 0xFFFFFFFF f n p ≡ true → parentOf x ≡ min 255 p
+pub owned-add : (n p : ℕ) (x : List ℕ) (f : ℕ → List ℕ) → Owned n f → n ≤ 64 → blockOk x ≡ true → placedIn 0xFFFFFFFF f n p ≡ true → parentByteIn x ≡ min 255 p
     → Owned (n + 1) (upd n x f)
 owned-add n p x f o h b t e i k = elim (ℕ-discrete i n) [
   | yes q ↦ rw (q, upd-same n x f) (b, rw e (last (placed-facts 0xFFFFFFFF f n p t)))
@@ -80,17 +80,17 @@ owned-add n p x f o h b t e i k = elim (ℕ-discrete i n) [
     same : (j : ℕ) → j < n → f j ≡ upd n x f j
     same j l = sym (upd-other n x f j (λ q. omega arith))
 
-    last : Placed 0xFFFFFFFF f n p → placed 255 (upd n x f) n (min 255 p) ≡ true
+    last : Placed 0xFFFFFFFF f n p → placedIn 255 (upd n x f) n (min 255 p) ≡ true
     last (inl (z, q)) = placed-from 255 (upd n x f) n (min 255 p) (inl (z, rw q refl))
     last (inr (z, (q, r))) =
         let w : min 255 p ≡ p = omega arith in
         rw w (placed-from 255 (upd n x f) n p (inr (z, (q, rw (upd-other n x f p (λ v. omega arith)) r))))
 
 -- each has no parent or an earlier one
-pub owned-ordered : (n : ℕ) (f : ℕ → List ℕ) → Owned n f → (i : ℕ) → i < n → (parentOf (f i) ≡ 255) ⊎ (parentOf (f i) < i)
-owned-ordered n f o i h = by (placed-facts 255 f i (parentOf (f i)) (o i h .1))
+pub owned-ordered : (n : ℕ) (f : ℕ → List ℕ) → Owned n f → (i : ℕ) → i < n → (parentByteIn (f i) ≡ 255) ⊎ (parentByteIn (f i) < i)
+owned-ordered n f o i h = by (placed-facts 255 f i (parentByteIn (f i)) (o i h .1))
   where
-    by : Placed 255 f i (parentOf (f i)) → (parentOf (f i) ≡ 255) ⊎ (parentOf (f i) < i)
+    by : Placed 255 f i (parentByteIn (f i)) → (parentByteIn (f i) ≡ 255) ⊎ (parentByteIn (f i) < i)
     by (inl q) = inl (q .1)
     by (inr q) = inr (q .1 .0)
 
@@ -98,7 +98,7 @@ owned-ordered n f o i h = by (placed-facts 255 f i (parentOf (f i)) (o i h .1))
 
 -- an edit keeps own data as it stood
 pub put-steps : (n i k m : ℕ) (x u : List ℕ) (f g : ℕ → List ℕ) → Owned n f → stepsOk f g k 0 n ≡ true → i < n → Alike x (f i)
-    → tagOf u ≡ 2 → numberOf u ≡ i → savedIn u ≡ f i → m ≤ suc k → stepsOk (upd i x f) (ahead u g) m 0 n ≡ true
+    → stepTag u ≡ 2 → stepObject u ≡ i → stepData u ≡ f i → m ≤ suc k → stepsOk (upd i x f) (ahead u g) m 0 n ≡ true
 put-steps n i k m x u f g o s h a t e v l =
     let here : Again (upd i x f) n u =
     record {
@@ -115,7 +115,7 @@ below : (n : ℕ) (x : List ℕ) (f : ℕ → List ℕ) (j : ℕ) → j < n → 
 below n x f j h = alike-same (sym (upd-other n x f j (λ e. omega arith)))
 
 -- an add keeps the new object's number
-pub add-steps : (n k m : ℕ) (x u : List ℕ) (f g : ℕ → List ℕ) → stepsOk f g k 0 n ≡ true → tagOf u ≡ 1 → numberOf u ≡ n → m ≤ suc k
+pub add-steps : (n k m : ℕ) (x u : List ℕ) (f g : ℕ → List ℕ) → stepsOk f g k 0 n ≡ true → stepTag u ≡ 1 → stepObject u ≡ n → m ≤ suc k
     → stepsOk (upd n x f) (ahead u g) m 0 (n + 1) ≡ true
 add-steps n k m x u f g s t e l =
     let c : standing (n + 1) u ≡ n = standing-add (n + 1) u t ∙ omega arith in
@@ -130,18 +130,18 @@ module _ (n m : ℕ) (f g : ℕ → List ℕ) (s : stepsOk f g (suc m) 0 n ≡ t
   latest = step-facts f n (g 0) (steps-off f g m n s .0)
 
   -- own data is put back
-  pub back-steps : tagOf (g 0) ≡ 2
-      → Again f n (g 0) × (stepsOk (upd (numberOf (g 0)) (savedIn (g 0)) f) (λ j. g (suc j)) m 0 n ≡ true)
+  pub back-steps : stepTag (g 0) ≡ 2
+      → Again f n (g 0) × (stepsOk (upd (stepObject (g 0)) (stepData (g 0)) f) (λ j. g (suc j)) m 0 n ≡ true)
   back-steps t = by latest
     where
-      by : Adds n (g 0) ⊎ Again f n (g 0) → Again f n (g 0) × (stepsOk (upd (numberOf (g 0)) (savedIn (g 0)) f) (λ j. g (suc j)) m 0 n ≡ true)
+      by : Adds n (g 0) ⊎ Again f n (g 0) → Again f n (g 0) × (stepsOk (upd (stepObject (g 0)) (stepData (g 0)) f) (λ j. g (suc j)) m 0 n ≡ true)
       by (inl a) = absurd (omega arith)
       by (inr a) =
           let r : stepsOk f (λ j. g (suc j)) m 0 n ≡ true = rw (standing-again n (g 0) t) at (steps-off f g m n s .1) in
-          (a, steps-same f _ (λ j. g (suc j)) m 0 n (λ j q. alike-upd (numberOf (g 0)) (savedIn (g 0)) f (a .same) j) r)
+          (a, steps-same f _ (λ j. g (suc j)) m 0 n (λ j q. alike-upd (stepObject (g 0)) (stepData (g 0)) f (a .same) j) r)
 
   -- the last object is taken off
-  pub off-steps : tagOf (g 0) ≡ 1 → Adds n (g 0) × ((x : List ℕ) → stepsOk (upd (n - 1) x f) (λ j. g (suc j)) m 0 (n - 1) ≡ true)
+  pub off-steps : stepTag (g 0) ≡ 1 → Adds n (g 0) × ((x : List ℕ) → stepsOk (upd (n - 1) x f) (λ j. g (suc j)) m 0 (n - 1) ≡ true)
   off-steps t = by latest
     where
       by : Adds n (g 0) ⊎ Again f n (g 0) → Adds n (g 0) × ((x : List ℕ) → stepsOk (upd (n - 1) x f) (λ j. g (suc j)) m 0 (n - 1) ≡ true)

@@ -18,10 +18,11 @@ use Rattle.inherit.specs.Last.{inPlace, mapped, resolved, lastOf, lastStep}
 use Rattle.inherit.specs.Branch.{inheritedBit, withCreator, fromDefault, branch, resultOf}
 use Rattle.inherit.specs.Compute.{anyObject, withRoom, onReading, readable, ruleOk, computeOf, bytesFor}
 use Rattle.inherit.proofs.Worked.{mapping, system, parentWith, inherited, listed}
+use Rattle.tree.specs.Model.{limitsOk}
 use Rattle.tree.specs.General.{bind}
 use Rattle.tree.specs.Held.{New, bytesIn, idIn, idFor, slotFor, blockFor}
-use Rattle.tree.specs.Room.{limitsOk, roomFor, roomOf, settingsFor}
-use Rattle.tree.specs.Formed.{formed, headOk}
+use Rattle.tree.specs.Room.{roomFor, roomOf, settingsFor}
+use Rattle.tree.specs.Formed.{formed, countsOk}
 use Rattle.tree.specs.Work.{computed}
 use Rattle.tree.proofs.Replay.{fromRoot, gather, work}
 
@@ -67,7 +68,7 @@ rooms = (refl, (refl, (refl, (refl, (refl, refl)))))
 
 -- no room is no tree
 pub nothing : formed [] ≡ false
-unfolding formed headOk
+unfolding formed countsOk
 nothing = refl
 
 -- ---- the tree of document 01's script

@@ -24,14 +24,14 @@ use Rattle.inherit.specs.Compute.{computeOf, bytesFor, written, outOf, computed
 use Rattle.inherit.proofs.Planned.{given-lent}
 use Rattle.inherit.proofs.Theorems.{present-fits}
 use Rattle.tree.specs.General.{bind, isSome, orElse}
-use Rattle.tree.specs.Held.{hasList, bytesIn, held, slotFor, kindOf, markOf, typeOf, ownerOf, groupOf, ownSlot, ownList, parentOf}
-use Rattle.tree.specs.Room.{slotAt, settings, ruleOf, defaultSlot, defaultOf, mappingOf, own, slot}
-use Rattle.tree.specs.Work.{askedIn, computed, above, laid, rework, reworked}
+use Rattle.tree.specs.Held.{hasList, bytesIn, held, slotFor, kindByte, markByte, typeOf, ownerOf, groupOf, ownSlot, ownList, parentByteIn}
+use Rattle.tree.specs.Room.{slotAt, settings, ruleOf, defaultSlot, defaultOf, mappingOf, ownData, slot}
+use Rattle.tree.specs.Work.{askedIn, computed, aboveIn, laid, rework, reworked}
 
 -- the settings as the code finds them in slots and own data
-pub settings-found : (e p b : List ℕ) (x y z k m : Bool) → x ≡ hasList p → y ≡ hasList (ownSlot b) → z ≡ hasList (defaultSlot e) → k ≡ eqb (kindOf b) 1
-    → m ≡ eqb (markOf b) 1
-    → _≡_ {A = Settings} (record { parent = x; creator = y; default = z; container = k; auto = true; defaulted = false; protect = m }) (record { parent = given (held p); creator = given (ownList b); default = given (defaultOf e); container = eqb (kindOf b) 1; auto = true; defaulted = false; protect = eqb (markOf b) 1 })
+pub settings-found : (e p b : List ℕ) (x y z k m : Bool) → x ≡ hasList p → y ≡ hasList (ownSlot b) → z ≡ hasList (defaultSlot e) → k ≡ eqb (kindByte b) 1
+    → m ≡ eqb (markByte b) 1
+    → _≡_ {A = Settings} (record { parent = x; creator = y; default = z; container = k; auto = true; defaulted = false; protect = m }) (record { parent = given (held p); creator = given (ownList b); default = given (defaultOf e); container = eqb (kindByte b) 1; auto = true; defaulted = false; protect = eqb (markByte b) 1 })
 settings-found e p b x y z k m ex ey ez ek em =
     rw (
       ex,
@@ -62,10 +62,10 @@ module _ (e p b : List ℕ) where
         parent = given (held p);
         creator = given (ownList b);
         default = given (defaultOf e);
-        container = eqb (kindOf b) 1;
+        container = eqb (kindByte b) 1;
         auto = true;
         defaulted = false;
-        protect = eqb (markOf b) 1;
+        protect = eqb (markByte b) 1;
       }
 
   asked-held : askedBy (ruleOf e) set (mappingOf e) (bytesIn p) (bytesIn (ownSlot b)) (bytesIn (defaultSlot e)) (typeOf b) (ownerOf b) (groupOf b)
@@ -88,19 +88,19 @@ module _ (e p b : List ℕ) where
       subst (λ (a : Asked). Answers a out r out₁) q h
 
 -- the parent's slot, or nothing
-pub above-slot : (i p : ℕ) (r s : List ℕ) → p ≡ parentOf (own i r) → p < i → s ≡ slot p r → held s ≡ above i r
-unfolding above
+pub above-slot : (i p : ℕ) (r s : List ℕ) → p ≡ parentByteIn (ownData i r) → p < i → s ≡ slot p r → held s ≡ aboveIn i r
+unfolding aboveIn
 above-slot i p r s e h f = rw (f, ← e, lt-ltb p i h) refl
 
-pub above-none : (i p : ℕ) (r : List ℕ) → p ≡ parentOf (own i r) → i ≤ p → held [] ≡ above i r
-unfolding above
+pub above-none : (i p : ℕ) (r : List ℕ) → p ≡ parentByteIn (ownData i r) → i ≤ p → held [] ≡ aboveIn i r
+unfolding aboveIn
 above-none i p r e h = rw (← e, le-ltb p i h) refl
 
 -- one object, by what the computation answers
-module _ (i : ℕ) (w out e b : List ℕ) (x : MaybeList) (r : Computed) (out₁ : List ℕ) (q : x ≡ above i w) (ee : e ≡ settings w) (eb : b ≡ own i w)
+module _ (i : ℕ) (w out e b : List ℕ) (x : MaybeList) (r : Computed) (out₁ : List ℕ) (q : x ≡ aboveIn i w) (ee : e ≡ settings w) (eb : b ≡ ownData i w)
     (room : length out ≡ 1024) (h : Answers (askedIn e x b) out r out₁) where
   abbrev asked : Asked
-  asked = askedIn (settings w) (above i w) (own i w)
+  asked = askedIn (settings w) (aboveIn i w) (ownData i w)
 
   asked-is : askedIn e x b ≡ asked
   asked-is = rw (q, ee, eb) refl

@@ -17,9 +17,10 @@ use Rattle.inherit.specs.Asked.{MaybeList}
 use Rattle.inherit.specs.Compute.{ordinary, ruleOk}
 use Rattle.tree.specs.declared.Answer.{Answer}
 use Rattle.tree.specs.declared.Answer.the-variants.{Done, Refused}
+use Rattle.tree.specs.Model.{shortIf, limitsOk}
 use Rattle.tree.specs.Held.{New, held, slotFor, idFor, blockFor, yes, ownerOf, groupOf, ownList}
-use Rattle.tree.specs.Room.{limit, depth, objects, kept, ownAt, stepsAt, roomFor, limitsOk, own, slot, step, numberOf, savedIn, area, emptyRoom}
-use Rattle.tree.specs.Formed.{placed, standing, formed}
+use Rattle.tree.specs.Room.{objectLimit, stepLimit, objects, keptSteps, ownAt, stepsAt, roomFor, ownData, slot, step, stepObject, stepData, area, emptyRoom}
+use Rattle.tree.specs.Formed.{placedIn, standing, formed}
 use Rattle.tree.specs.Work.{reworked}
 
 -- document 01's number and values for each case
@@ -37,23 +38,18 @@ abbrev pub refuse : ℕ → ℕ → ℕ → List ℕ → Outcome
 refuse k which at r = record { answer = Refused k which at; bytes = r }
 
 -- a list that is present reads as done, or its refusal concerns list `which`
-unfoldable pub onReading : Reading → ℕ → List ℕ → Outcome → Outcome
-onReading (Read len n) which r rest = rest
-onReading (Unread k at) which r rest = refuse k which at r
+unfoldable pub onReadingTo : Reading → ℕ → List ℕ → Outcome → Outcome
+onReadingTo (Read len n) which r rest = rest
+onReadingTo (Unread k at) which r rest = refuse k which at r
 
-unfoldable pub readable : MaybeList → ℕ → List ℕ → Outcome → Outcome
-readable none which r rest = rest
-readable (some s) which r rest = onReading (checkOf access s) which r rest
-
--- at most 1,024 bytes
-unfoldable pub short : MaybeList → Bool
-short none = true
-short (some s) = leb (length s) 1024
+unfoldable pub readableTo : MaybeList → ℕ → List ℕ → Outcome → Outcome
+readableTo none which r rest = rest
+readableTo (some s) which r rest = onReadingTo (checkOf access s) which r rest
 
 -- a list, possibly absent, in an answer
-unfoldable pub told : MaybeList → Answer
-told none = Done 0 false 0
-told (some s) = Done (length s) true (countOf s)
+unfoldable pub toldAs : MaybeList → Answer
+toldAs none = Done 0 false 0
+toldAs (some s) = Done (length s) true (countOf s)
 
 -- the calls that name an object: 13, 9
 unfoldable pub onObject : List ℕ → ℕ → List ℕ → Outcome → Outcome
@@ -63,51 +59,51 @@ onObject r i x rest = need (formed r) (refuse 13 0 0 x) (need (ltb i (objects r)
 
 -- place for a step in front, the oldest forgotten where there is no more room
 unfoldable pub shifted : List ℕ → List ℕ
-shifted w = set (putAt (stepsAt (limit w) + 1186) (part (stepsAt (limit w)) ((depth w - 1) * 1186) w) w) 3 (min (depth w) (kept w + 1))
+shifted w = set (putAt (stepsAt (objectLimit w) + 1186) (part (stepsAt (objectLimit w)) ((stepLimit w - 1) * 1186) w) w) 3 (min (stepLimit w) (keptSteps w + 1))
 
 -- a step kept; none is kept where the step limit is 0
 unfoldable pub pushed : List ℕ → List ℕ → List ℕ
-pushed u w = cond (ltb 0 (depth w)) (putAt (stepsAt (limit w)) u (shifted w)) w
+pushed u w = cond (ltb 0 (stepLimit w)) (putAt (stepsAt (objectLimit w)) u (shifted w)) w
 
 -- the latest step taken off
 unfoldable pub popped : List ℕ → List ℕ
-popped w = set (putAt (stepsAt (limit w)) (part (stepsAt (limit w) + 1186) ((depth w - 1) * 1186) w) w) 3 (kept w - 1)
+popped w = set (putAt (stepsAt (objectLimit w)) (part (stepsAt (objectLimit w) + 1186) ((stepLimit w - 1) * 1186) w) w) 3 (keptSteps w - 1)
 
 -- ---- changes and undo, on the room's area: none where a list would pass 1,024 bytes
 
 -- b put at `at`, n objects stand, and every list is worked out again
-unfoldable pub settled : ℕ → List ℕ → ℕ → List ℕ → Option (List ℕ)
-settled at b n w = reworked n (set (putAt at b w) 2 n)
+unfoldable pub reworkedWith : ℕ → List ℕ → ℕ → List ℕ → Option (List ℕ)
+reworkedWith at b n w = reworked n (set (putAt at b w) 2 n)
 
 -- a change of object i: a step is kept with its own data as it stood, b is put at place `at` of it
 unfoldable pub changed : ℕ → ℕ → ℕ → List ℕ → ℕ → List ℕ → Option (List ℕ)
-changed tag i at b n w = settled (ownAt i + at) b n (pushed (tag ∷ i ∷ own i w) w)
+changed tag i at b n w = reworkedWith (ownAt i + at) b n (pushed (tag ∷ i ∷ ownData i w) w)
 
 -- undo: what the latest step holds is put back; the object of an add is gone
 abbrev pub latest : List ℕ → List ℕ
-latest w = step (limit w) 0 w
+latest w = step (objectLimit w) 0 w
 
-abbrev pub left : List ℕ → ℕ
-left w = standing (objects w) (latest w)
+abbrev pub standingAfter : List ℕ → ℕ
+standingAfter w = standing (objects w) (latest w)
 
-unfoldable pub undone : List ℕ → Option (List ℕ)
-undone w = settled (ownAt (numberOf (latest w))) (savedIn (latest w)) (left w) (popped w)
+unfoldable pub stepTakenBack : List ℕ → Option (List ℕ)
+stepTakenBack w = reworkedWith (ownAt (stepObject (latest w))) (stepData (latest w)) (standingAfter w) (popped w)
 
 -- the end of a change of object i: its computed list; of an undo: zeros
-unfoldable pub finish : ℕ → List ℕ → Option (List ℕ) → Outcome
-finish i r none = refuse 8 0 0 r
-finish i r (some w) = record { answer = told (held (slot i w)); bytes = front w r }
+unfoldable pub changeEnds : ℕ → List ℕ → Option (List ℕ) → Outcome
+changeEnds i r none = refuse 8 0 0 r
+changeEnds i r (some w) = record { answer = toldAs (held (slot i w)); bytes = front w r }
 
-unfoldable pub finishUndo : List ℕ → Option (List ℕ) → Outcome
-finishUndo r none = refuse 8 0 0 r
-finishUndo r (some w) = record { answer = Done 0 false 0; bytes = front w r }
+unfoldable pub undoEnds : List ℕ → Option (List ℕ) → Outcome
+undoEnds r none = refuse 8 0 0 r
+undoEnds r (some w) = record { answer = Done 0 false 0; bytes = front w r }
 
 -- both, on a room whose tests are passed
 abbrev pub changeTo : ℕ → ℕ → ℕ → List ℕ → ℕ → List ℕ → Outcome
-changeTo tag i at b n r = finish i r (changed tag i at b n (area r))
+changeTo tag i at b n r = changeEnds i r (changed tag i at b n (area r))
 
 abbrev pub takeBackTo : List ℕ → Outcome
-takeBackTo r = finishUndo r (undone (area r))
+takeBackTo r = undoEnds r (stepTakenBack (area r))
 
 -- ---- the calls
 
@@ -123,20 +119,20 @@ startOk n s rule room = limitsOk n s && (ruleOk rule && leb (roomFor n s) room)
 unfoldable pub startTo : ℕ → ℕ → ℕ → Mapping → MaybeList → List ℕ → Outcome
 startTo n s rule m default r =
     need (startOk n s rule (length r)) (refuse 12 0 0 r)
-    (readable default 3 r
-    (need (short default) (refuse 8 0 0 r)
+    (readableTo default 3 r
+    (need (shortIf default) (refuse 8 0 0 r)
     (record { answer = Done 0 false 0; bytes = front (emptyRoom n s rule m default) r })))
 
 -- add: 13, 9, 10, 1 to 5, 6, 8
 unfoldable pub addTo : New → List ℕ → Outcome
 addTo new r =
     need (formed r) (refuse 13 0 0 r)
-    (need (placed nobody (λ j. own j r) (objects r) (new .parent)) (refuse 9 0 0 r)
-    (need (ltb (objects r) (limit r)) (refuse 10 0 0 r)
-    (readable (new .list) 2 r
+    (need (placedIn nobody (λ j. ownData j r) (objects r) (new .parent)) (refuse 9 0 0 r)
+    (need (ltb (objects r) (objectLimit r)) (refuse 10 0 0 r)
+    (readableTo (new .list) 2 r
     (need (ordinary (new .owner)) (refuse 6 0 0 r)
     (need (ordinary (new .group)) (refuse 6 0 0 r)
-    (need (short (new .list)) (refuse 8 0 0 r)
+    (need (shortIf (new .list)) (refuse 8 0 0 r)
     (changeTo 1 (objects r) 0 (blockFor new) (objects r + 1) r)))))))
 
 -- what a change alters in an object's own data: its list, its mark, or its owner and group
@@ -146,9 +142,9 @@ pub data Edit : Type 0 where
   owners : List ℕ → List ℕ → Edit
 
 -- the changes, as they are asked for: add, and whatever alters object i
-pub data Change : Type 0 where
-  add : New → Change
-  alter : ℕ → Edit → Change
+pub data ChangeGiven : Type 0 where
+  add : New → ChangeGiven
+  alter : ℕ → Edit → ChangeGiven
 
 -- where the altered bytes lie in own data, and what they are
 unfoldable pub editAt : Edit → ℕ
@@ -163,7 +159,7 @@ editBytes (owners o g) = idFor o ++ idFor g
 
 -- the tests of what is given: 1 to 5, 6, 8
 unfoldable pub tested : Edit → List ℕ → Outcome → Outcome
-tested (list o) r rest = readable o 2 r (need (short o) (refuse 8 0 0 r) rest)
+tested (list o) r rest = readableTo o 2 r (need (shortIf o) (refuse 8 0 0 r) rest)
 tested (mark m) r rest = rest
 tested (owners o g) r rest = need (ordinary o) (refuse 6 0 0 r) (need (ordinary g) (refuse 6 0 0 r) rest)
 
@@ -173,14 +169,14 @@ alterTo i e r = onObject r i r (tested e r (changeTo 2 i (editAt e) (editBytes e
 
 -- undo: 13, 11, 8
 unfoldable pub undoTo : List ℕ → Outcome
-undoTo r = need (formed r) (refuse 13 0 0 r) (need (ltb 0 (kept r)) (refuse 11 0 0 r) (takeBackTo r))
+undoTo r = need (formed r) (refuse 13 0 0 r) (need (ltb 0 (keptSteps r)) (refuse 11 0 0 r) (takeBackTo r))
 
 -- ---- reading back: 13, 9, 8
 
 -- an absent list has no bytes
-unfoldable pub bytesIf : MaybeList → List ℕ
-bytesIf none = []
-bytesIf (some s) = s
+unfoldable pub listBytes : MaybeList → List ℕ
+listBytes none = []
+listBytes (some s) = s
 
 -- bytes on the front of what is lent for them
 unfoldable pub copied : Answer → List ℕ → List ℕ → Outcome
@@ -188,18 +184,18 @@ copied a b out = need (leb (length b) (length out)) (refuse 8 0 0 out) (record {
 
 -- a computed list, and an own list
 unfoldable pub listTo : ℕ → List ℕ → List ℕ → Outcome
-listTo i r out = onObject r i out (copied (told (held (slot i r))) (bytesIf (held (slot i r))) out)
+listTo i r out = onObject r i out (copied (toldAs (held (slot i r))) (listBytes (held (slot i r))) out)
 
 unfoldable pub ownTo : ℕ → List ℕ → List ℕ → Outcome
-ownTo i r out = onObject r i out (copied (told (ownList (own i r))) (bytesIf (ownList (own i r))) out)
+ownTo i r out = onObject r i out (copied (toldAs (ownList (ownData i r))) (listBytes (ownList (ownData i r))) out)
 
 -- own data but for the list: parent, kind, mark, type; owner and group, each of the two with its length in front
 unfoldable pub dataOf : List ℕ → List ℕ
 dataOf b = part 0 19 b ++ ((length (ownerOf b) ∷ ownerOf b) ++ (length (groupOf b) ∷ groupOf b))
 
 unfoldable pub dataTo : ℕ → List ℕ → List ℕ → Outcome
-dataTo i r out = onObject r i out (copied (Done (length (dataOf (own i r))) true 0) (dataOf (own i r)) out)
+dataTo i r out = onObject r i out (copied (Done (length (dataOf (ownData i r))) true 0) (dataOf (ownData i r)) out)
 
 -- how many objects stand and how many steps are kept
 unfoldable pub countsTo : List ℕ → Answer
-countsTo r = cond (formed r) (Done (objects r) true (kept r)) (Refused 13 0 0)
+countsTo r = cond (formed r) (Done (objects r) true (keptSteps r)) (Refused 13 0 0)

@@ -10,8 +10,8 @@ use Rattle.list.specs.declared.lists.Reading.{Reading}
 use Rattle.list.specs.declared.lists.Reading.the-variants.{Done as Read, Refused as Unread}
 use Rattle.inherit.specs.Asked.{MaybeList}
 use Rattle.tree.specs.declared.tests.Fault.{Fault}
-use Rattle.tree.specs.Room.{limit, objects, own}
-use Rattle.tree.specs.Formed.{placed, formed}
+use Rattle.tree.specs.Room.{objectLimit, objects, ownData}
+use Rattle.tree.specs.Formed.{placedIn, formed}
 use Rattle.tree.specs.Calls.{nobody}
 
 -- the room, and an object that stands in it
@@ -20,7 +20,7 @@ objectFault r i = cond (formed r) (cond (ltb i (objects r)) 0 9) 13
 
 -- the room, the parent of a new object, and place for it
 unfoldable pub addFault : List ℕ → ℕ → ℕ
-addFault r p = cond (formed r) (cond (placed nobody (λ j. own j r) (objects r) p) (cond (ltb (objects r) (limit r)) 0 10) 9) 13
+addFault r p = cond (formed r) (cond (placedIn nobody (λ j. ownData j r) (objects r) p) (cond (ltb (objects r) (objectLimit r)) 0 10) 9) 13
 
 -- a list that is given or not, by its reading
 unfoldable pub faultBy : Reading → Fault

@@ -6,52 +6,52 @@ use lib.ListN.{length}
 use lib.Dec.{eqb, leb, ltb}
 use Rattle.inherit.specs.Compute.{ruleOk}
 use Rattle.tree.specs.General.{every}
-use Rattle.tree.specs.Held.{slotOk, blockOk, alike, parentOf, kindOf}
-use Rattle.tree.specs.Room.{limit, depth, objects, kept, roomFor, settings, ruleOf, defaultSlot, own, slot, step, tagOf, numberOf, savedIn}
+use Rattle.tree.specs.Held.{slotOk, blockOk, alike, parentByteIn, kindByte}
+use Rattle.tree.specs.Room.{objectLimit, stepLimit, objects, keptSteps, roomFor, settings, ruleOf, defaultSlot, ownData, slot, step, stepTag, stepObject, stepData}
 
 -- limits and counts in their ranges, and room enough
-unfoldable pub headOk : List ℕ → Bool
-headOk r =
+unfoldable pub countsOk : List ℕ → Bool
+countsOk r =
     leb 1048 (length r)
-    && (leb 1 (limit r)
-    && (leb (limit r) 64
-    && (leb (depth r) 64
-    && (leb (objects r) (limit r)
-    && (leb (kept r) (depth r)
-    && leb (roomFor (limit r) (depth r)) (length r))))))
+    && (leb 1 (objectLimit r)
+    && (leb (objectLimit r) 64
+    && (leb (stepLimit r) 64
+    && (leb (objects r) (objectLimit r)
+    && (leb (keptSteps r) (stepLimit r)
+    && leb (roomFor (objectLimit r) (stepLimit r)) (length r))))))
 
 -- the same as facts: what the private functions ask
 pub record Head (r : List ℕ) : Type 0 where
   pub long : 1048 ≤ length r
-  pub some-limit : 1 ≤ limit r
-  pub limit-64 : limit r ≤ 64
-  pub depth-64 : depth r ≤ 64
-  pub within : objects r ≤ limit r
-  pub kept-within : kept r ≤ depth r
-  pub room-enough : roomFor (limit r) (depth r) ≤ length r
+  pub some-limit : 1 ≤ objectLimit r
+  pub limit-64 : objectLimit r ≤ 64
+  pub depth-64 : stepLimit r ≤ 64
+  pub within : objects r ≤ objectLimit r
+  pub kept-within : keptSteps r ≤ stepLimit r
+  pub room-enough : roomFor (objectLimit r) (stepLimit r) ≤ length r
 
 -- rule 1 or 2, and a good default list
 unfoldable pub settingsOk : List ℕ → Bool
 settingsOk e = ruleOk (ruleOf e) && slotOk (defaultSlot e)
 
 -- p may be the parent of object i, where f gives the own data of those before it: none for the first, an earlier container for each later one
-unfoldable pub placed : ℕ → (ℕ → List ℕ) → ℕ → ℕ → Bool
-placed nobody f i p = cond (eqb i 0) (eqb p nobody) (ltb p i && eqb (kindOf (f p)) 1)
+unfoldable pub placedIn : ℕ → (ℕ → List ℕ) → ℕ → ℕ → Bool
+placedIn nobody f i p = cond (eqb i 0) (eqb p nobody) (ltb p i && eqb (kindByte (f p)) 1)
 
 -- object i: its own data, its place, its computed list
 unfoldable pub objectOk : List ℕ → ℕ → Bool
-objectOk r i = blockOk (own i r) && (placed 255 (λ j. own j r) i (parentOf (own i r)) && slotOk (slot i r))
+objectOk r i = blockOk (ownData i r) && (placedIn 255 (λ j. ownData j r) i (parentByteIn (ownData i r)) && slotOk (slot i r))
 
 -- own data is put back: of an object that stands, good by itself, and alike
 unfoldable pub againOk : (ℕ → List ℕ) → ℕ → List ℕ → Bool
-againOk f c u = ltb (numberOf u) c && (blockOk (savedIn u) && alike (savedIn u) (f (numberOf u)))
+againOk f c u = ltb (stepObject u) c && (blockOk (stepData u) && alike (stepData u) (f (stepObject u)))
 
 -- a step applies where c objects stand, whose own data f gives; and how many stand before it
 unfoldable pub stepOk : (ℕ → List ℕ) → ℕ → List ℕ → Bool
-stepOk f c u = cond (eqb (tagOf u) 1) (ltb 0 c && eqb (numberOf u) (c - 1)) (eqb (tagOf u) 2 && againOk f c u)
+stepOk f c u = cond (eqb (stepTag u) 1) (ltb 0 c && eqb (stepObject u) (c - 1)) (eqb (stepTag u) 2 && againOk f c u)
 
 abbrev pub standing : ℕ → List ℕ → ℕ
-standing c u = cond (eqb (tagOf u) 1) (c - 1) c
+standing c u = cond (eqb (stepTag u) 1) (c - 1) c
 
 -- m steps from the one that g gives at j, from the latest to the oldest, each in its turn
 unfoldable pub stepsOk : (ℕ → List ℕ) → (ℕ → List ℕ) → ℕ → ℕ → ℕ → Bool
@@ -61,7 +61,7 @@ stepsOk f g (suc m) j c = stepOk f c (g j) && stepsOk f g m (j + 1) (standing c 
 -- the whole test
 unfoldable pub formed : List ℕ → Bool
 formed r =
-    headOk r
+    countsOk r
     && (settingsOk (settings r)
     && (every (objectOk r) (objects r)
-    && stepsOk (λ i. own i r) (λ j. step (limit r) j r) (kept r) 0 (objects r)))
+    && stepsOk (λ i. ownData i r) (λ j. step (objectLimit r) j r) (keptSteps r) 0 (objects r)))

@@ -54,14 +54,14 @@ idOk f = leb (getD f 0 0) 68 && ordinary (idIn f)
 
 -- ---- own data of an object, 1,184 bytes: parent (255 none), kind, mark, type, owner, group, own list
 
-abbrev pub parentOf : List ℕ → ℕ
-parentOf b = getD b 0 0
+abbrev pub parentByteIn : List ℕ → ℕ
+parentByteIn b = getD b 0 0
 
-abbrev pub kindOf : List ℕ → ℕ
-kindOf b = getD b 1 0
+abbrev pub kindByte : List ℕ → ℕ
+kindByte b = getD b 1 0
 
-abbrev pub markOf : List ℕ → ℕ
-markOf b = getD b 2 0
+abbrev pub markByte : List ℕ → ℕ
+markByte b = getD b 2 0
 
 abbrev pub typeOf : List ℕ → List ℕ
 typeOf b = guidAt b 3
@@ -81,15 +81,15 @@ ownList b = held (ownSlot b)
 -- good by itself
 unfoldable pub blockOk : List ℕ → Bool
 blockOk b =
-    leb (kindOf b) 1
-    && (leb (markOf b) 1
+    leb (kindByte b) 1
+    && (leb (markByte b) 1
     && (idOk (part 19 69 b)
     && (idOk (part 88 69 b)
     && slotOk (ownSlot b))))
 
 -- two of them agree in what no change alters: parent, kind and type
 unfoldable pub alike : List ℕ → List ℕ → Bool
-alike a b = eqb (parentOf a) (parentOf b) && (eqb (kindOf a) (kindOf b) && sameBytes (typeOf a) (typeOf b))
+alike a b = eqb (parentByteIn a) (parentByteIn b) && (eqb (kindByte a) (kindByte b) && sameBytes (typeOf a) (typeOf b))
 
 -- what a new object is given
 pub record New : Type 0 where

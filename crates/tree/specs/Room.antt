@@ -7,20 +7,21 @@ use lib.Dec.{leb}
 use Rattle.list.specs.Bytes.{le, spell, part}
 use Rattle.inherit.specs.Asked.{MaybeList}
 use Rattle.inherit.specs.declared.Mapping.{Mapping}
+use Rattle.tree.specs.Model.{limitsOk}
 use Rattle.tree.specs.Held.{held, slotFor}
 
 -- object limit, step limit, objects that stand, kept steps
-abbrev pub limit : List ℕ → ℕ
-limit r = getD r 0 0
+abbrev pub objectLimit : List ℕ → ℕ
+objectLimit r = getD r 0 0
 
-abbrev pub depth : List ℕ → ℕ
-depth r = getD r 1 0
+abbrev pub stepLimit : List ℕ → ℕ
+stepLimit r = getD r 1 0
 
 abbrev pub objects : List ℕ → ℕ
 objects r = getD r 2 0
 
-abbrev pub kept : List ℕ → ℕ
-kept r = getD r 3 0
+abbrev pub keptSteps : List ℕ → ℕ
+keptSteps r = getD r 3 0
 
 -- own data and computed list of object i; the steps behind n objects
 abbrev pub ownAt : ℕ → ℕ
@@ -35,10 +36,6 @@ stepsAt n = 1048 + n * 2211
 -- the formula: bytes of room for n objects and s steps
 abbrev pub roomFor : ℕ → ℕ → ℕ
 roomFor n s = 1048 + n * 2211 + s * 1186
-
--- object limit 1 to 64, step limit 0 to 64
-unfoldable pub limitsOk : ℕ → ℕ → Bool
-limitsOk n s = leb 1 n && (leb n 64 && leb s 64)
 
 -- what the public call gives: the formula, 0 where a limit is out of range
 unfoldable pub roomOf : ℕ → ℕ → ℕ
@@ -67,8 +64,8 @@ settingsFor rule m default =
     ++ (spell 4 (m .read) ++ (spell 4 (m .write) ++ (spell 4 (m .execute) ++ (spell 4 (m .all) ++ slotFor default))))
 
 -- own data and computed list of object i, and step j, the latest first, behind n objects
-unfoldable pub own : ℕ → List ℕ → List ℕ
-own i r = part (ownAt i) 1184 r
+unfoldable pub ownData : ℕ → List ℕ → List ℕ
+ownData i r = part (ownAt i) 1184 r
 
 unfoldable pub slot : ℕ → List ℕ → List ℕ
 slot i r = part (slotAt i) 1027 r
@@ -77,18 +74,18 @@ unfoldable pub step : ℕ → ℕ → List ℕ → List ℕ
 step n j r = part (stepsAt n + j * 1186) 1186 r
 
 -- a step: 1 for an add and 2 for any other change, the object's number, and what undo puts back in the place of its own data
-abbrev pub tagOf : List ℕ → ℕ
-tagOf u = getD u 0 0
+abbrev pub stepTag : List ℕ → ℕ
+stepTag u = getD u 0 0
 
-abbrev pub numberOf : List ℕ → ℕ
-numberOf u = getD u 1 0
+abbrev pub stepObject : List ℕ → ℕ
+stepObject u = getD u 1 0
 
-abbrev pub savedIn : List ℕ → List ℕ
-savedIn u = part 2 1184 u
+abbrev pub stepData : List ℕ → List ℕ
+stepData u = part 2 1184 u
 
 -- the part of a room that its limits take up: no call reads or changes what lies behind it
 abbrev pub area : List ℕ → List ℕ
-area r = take (roomFor (limit r) (depth r)) r
+area r = take (roomFor (objectLimit r) (stepLimit r)) r
 
 -- an empty tree
 unfoldable pub emptyRoom : ℕ → ℕ → ℕ → Mapping → MaybeList → List ℕ

@@ -10,9 +10,9 @@ use Rattle.list.specs.Answer.{Values}
 use Rattle.inherit.specs.declared.Mapping.{Mapping}
 use Rattle.inherit.specs.Asked.{MaybeList}
 use Rattle.tree.specs.General.{tab}
-use Rattle.tree.specs.Held.{New, held, parentOf, kindOf, markOf, typeOf, ownerOf, groupOf, ownList}
-use Rattle.tree.specs.Room.{limit, depth, objects, settings, ruleOf, mappingOf, defaultOf, own, slot, step, tagOf, numberOf, savedIn, roomFor}
-use Rattle.tree.specs.Calls.{Edit, list, mark, owners, nobody, Outcome, answerValues, startTo, addTo, alterTo, undoTo, listTo, ownTo, dataTo, countsTo, Change, add, alter}
+use Rattle.tree.specs.Held.{New, held, parentByteIn, kindByte, markByte, typeOf, ownerOf, groupOf, ownList}
+use Rattle.tree.specs.Room.{objectLimit, stepLimit, objects, settings, ruleOf, mappingOf, defaultOf, ownData, slot, step, stepTag, stepObject, stepData, roomFor}
+use Rattle.tree.specs.Calls.{Edit, list, mark, owners, nobody, Outcome, answerValues, startTo, addTo, alterTo, undoTo, listTo, ownTo, dataTo, countsTo, ChangeGiven, add, alter}
 use Rattle.tree.specs.Model as Model
 use Rattle.tree.specs.Model.{Settings, Object, Part, computed-list, own-list, other-data}
 
@@ -26,9 +26,9 @@ parentIn none-is p = cond (eqb p none-is) none (some p)
 abbrev pub objectIn : List ℕ → Object
 objectIn b =
     record {
-      parent = parentIn 255 (parentOf b);
-      container = eqb (kindOf b) 1;
-      mark = eqb (markOf b) 1;
+      parent = parentIn 255 (parentByteIn b);
+      container = eqb (kindByte b) 1;
+      mark = eqb (markByte b) 1;
       type = typeOf b;
       owner = ownerOf b;
       group = groupOf b;
@@ -37,7 +37,7 @@ objectIn b =
 
 -- the objects of a room
 unfoldable pub objectsIn : List ℕ → List Object
-objectsIn r = tab (objects r) (λ i. objectIn (own i r))
+objectsIn r = tab (objects r) (λ i. objectIn (ownData i r))
 
 -- their computed lists, as they lie in the room
 unfoldable pub listsIn : List ℕ → List MaybeList
@@ -45,15 +45,15 @@ listsIn r = tab (objects r) (λ i. held (slot i r))
 
 -- the objects that stand once the latest kept step is taken back: that of an add is gone, any other has its own data as it was before
 unfoldable pub objectsBack : List ℕ → List Object
-objectsBack r = let u = step (limit r) 0 r in
-    cond (eqb (tagOf u) 1) (take (objects r - 1) (objectsIn r)) (set (objectsIn r) (numberOf u) (objectIn (savedIn u)))
+objectsBack r = let u = step (objectLimit r) 0 r in
+    cond (eqb (stepTag u) 1) (take (objects r - 1) (objectsIn r)) (set (objectsIn r) (stepObject u) (objectIn (stepData u)))
 
 -- its settings: the two limits, and what lies in the bytes e
 abbrev pub settingsAt : ℕ → ℕ → List ℕ → Settings
 settingsAt n s e = record { object-limit = n; step-limit = s; rule = ruleOf e; mapping = mappingOf e; default = defaultOf e }
 
 abbrev pub settingsIn : List ℕ → Settings
-settingsIn r = settingsAt (limit r) (depth r) (settings r)
+settingsIn r = settingsAt (objectLimit r) (stepLimit r) (settings r)
 
 -- ---- the calls as they are made
 
@@ -75,7 +75,7 @@ alteration i (list o) = Model.setList i o
 alteration i (mark m) = Model.setMark i m
 alteration i (owners o g) = Model.setOwners i o g
 
-unfoldable pub changeMeant : Change → Model.Change
+unfoldable pub changeMeant : ChangeGiven → Model.Change
 changeMeant (add new) = Model.add (objectFor new)
 changeMeant (alter i e) = alteration i e
 
@@ -102,15 +102,15 @@ settingsFrom b =
     }
 
 -- the calls
-pub data Call : Type 0 where
-  start : Begin → Call
-  change : Change → Call
-  undo : Call
-  read : Part → ℕ → List ℕ → Call
-  counts : Call
+pub data Request : Type 0 where
+  start : Begin → Request
+  change : ChangeGiven → Request
+  undo : Request
+  read : Part → ℕ → List ℕ → Request
+  counts : Request
 
 -- what a call asks of the model, in a room of so many bytes
-unfoldable pub meant : ℕ → Call → Model.Call
+unfoldable pub meant : ℕ → Request → Model.Call
 meant long (start b) = Model.start (settingsFrom b) (leb (roomFor (b .objects) (b .steps)) long)
 meant long (change c) = Model.change (changeMeant c)
 meant long undo = Model.undo
@@ -121,7 +121,7 @@ meant long counts = Model.counts
 abbrev pub startWith : Begin → List ℕ → Outcome
 startWith b r = startTo (b .objects) (b .steps) (b .rule) (b .mapping) (b .default) r
 
-unfoldable pub changeWith : Change → List ℕ → Outcome
+unfoldable pub changeWith : ChangeGiven → List ℕ → Outcome
 changeWith (add new) r = addTo new r
 changeWith (alter i e) r = alterTo i e r
 
@@ -132,17 +132,17 @@ readWith own-list i r out = ownTo i r out
 readWith other-data i r out = dataTo i r out
 
 -- what each answers, and what it leaves of the room: a call that only reads leaves it as it was
-unfoldable pub callOn : Call → List ℕ → Outcome
+unfoldable pub callOn : Request → List ℕ → Outcome
 callOn (start b) r = startWith b r
 callOn (change c) r = changeWith c r
 callOn undo r = undoTo r
 callOn (read x i out) r = record { answer = readWith x i r out .answer; bytes = r }
 callOn counts r = record { answer = countsTo r; bytes = r }
 
-abbrev pub answerTo : Call → List ℕ → Values
+abbrev pub answerTo : Request → List ℕ → Values
 answerTo q r = answerValues (callOn q r .answer)
 
 -- the room after calls, the latest first
-unfoldable pub playedOn : List Call → List ℕ → List ℕ
+unfoldable pub playedOn : List Request → List ℕ → List ℕ
 playedOn [] r = r
 playedOn (q ∷ qs) r = callOn q (playedOn qs r) .bytes

@@ -11,8 +11,8 @@ use Rattle.inherit.specs.Asked.{Asked, MaybeList, lent}
 use Rattle.inherit.specs.Branch.{resultOf}
 use Rattle.inherit.specs.Compute.{computeOf, bytesFor}
 use Rattle.tree.specs.General.{bind}
-use Rattle.tree.specs.Held.{held, slotFor, parentOf, kindOf, markOf, typeOf, ownerOf, groupOf, ownList}
-use Rattle.tree.specs.Room.{slotAt, settings, ruleOf, mappingOf, defaultOf, own, slot}
+use Rattle.tree.specs.Held.{held, slotFor, parentByteIn, kindByte, markByte, typeOf, ownerOf, groupOf, ownList}
+use Rattle.tree.specs.Room.{slotAt, settings, ruleOf, mappingOf, defaultOf, ownData, slot}
 
 -- what the computation is asked for an object, from the settings e, its parent's computed list and its own data: auto inherit yes, default
 -- descriptor no, protected by the mark
@@ -23,14 +23,14 @@ askedIn e p b =
       parent = p;
       creator = ownList b;
       default = defaultOf e;
-      container = eqb (kindOf b) 1;
+      container = eqb (kindByte b) 1;
       types = typeOf b;
       owner = ownerOf b;
       group = groupOf b;
       mapping = mappingOf e;
       auto-inherit = true;
       default-descriptor = false;
-      protected = eqb (markOf b) 1;
+      protected = eqb (markByte b) 1;
     }
 
 -- a list of at most 1,024 bytes, or an absent one; none where the computation refuses
@@ -41,8 +41,8 @@ unfoldable pub computed : List ℕ → MaybeList → List ℕ → Option MaybeLi
 computed e p b = taken (computeOf (askedIn e p b) 1024) (bytesFor (resultOf access (askedIn e p b)))
 
 -- the computed list of object i's parent, absent where it has none (FF); in a well-formed room any other parent has a smaller number
-unfoldable pub above : ℕ → List ℕ → MaybeList
-above i r = cond (ltb (parentOf (own i r)) i) (held (slot (parentOf (own i r)) r)) none
+unfoldable pub aboveIn : ℕ → List ℕ → MaybeList
+aboveIn i r = cond (ltb (parentByteIn (ownData i r)) i) (held (slot (parentByteIn (ownData i r)) r)) none
 
 unfoldable pub laid : ℕ → List ℕ → Option MaybeList → Option (List ℕ)
 laid i r none = none
@@ -50,7 +50,7 @@ laid i r (some o) = some (putAt (slotAt i) (slotFor o) r)
 
 -- the room with object i's list worked out again; with those of the first n objects, parents first
 unfoldable pub rework : ℕ → List ℕ → Option (List ℕ)
-rework i r = laid i r (computed (settings r) (above i r) (own i r))
+rework i r = laid i r (computed (settings r) (aboveIn i r) (ownData i r))
 
 unfoldable pub reworked : ℕ → List ℕ → Option (List ℕ)
 reworked zero r = some r

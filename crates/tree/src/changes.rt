@@ -5,9 +5,9 @@ ghost use mathlib.Core.Option.{some};
 ghost use Prim.Native.Nat.{_+_, _≤_, _<_};
 ghost use lib.ListN.{length};
 ghost use Rattle.tree.specs.General.{isSome};
-ghost use Rattle.tree.specs.Room.{limit, depth, kept, numberOf, roomFor, area};
+ghost use Rattle.tree.specs.Room.{objectLimit, stepLimit, keptSteps, stepObject, roomFor, area};
 ghost use Rattle.tree.specs.Formed.{Head};
-ghost use Rattle.tree.specs.Calls.{changed, latest, undone, changeTo, takeBackTo};
+ghost use Rattle.tree.specs.Calls.{changed, latest, stepTakenBack, changeTo, takeBackTo};
 use crate::Answer;
 use crate::formed::standing;
 use crate::held::number_in;
@@ -26,7 +26,7 @@ const SMALL: usize = 55400;
 
 // How much of the room its limits take up.
 fn area_of(r: &[u8]) -> usize
-    ensures { λ n. ⌜ n ≡ roomFor (limit (now (r .entry))) (depth (now (r .entry))) ⌝ }
+    ensures { λ n. ⌜ n ≡ roomFor (objectLimit (now (r .entry))) (stepLimit (now (r .entry))) ⌝ }
 {
     1048 + number_in(r, 0) * 2211 + number_in(r, 1) * 1186
 }
@@ -42,8 +42,8 @@ fn change_copy(
     b: &[u8],
     n: usize,
 ) -> bool
-    requires { ⌜ Head (now r) × ((length (now w) ≡ roomFor (limit (now r)) (depth (now r))) × (length (now out) ≡ 1024)) ⌝ }
-    requires { ⌜ (i < limit (now r)) × ((n ≤ limit (now r)) × (at + length (now b) ≤ 1184)) ⌝ }
+    requires { ⌜ Head (now r) × ((length (now w) ≡ roomFor (objectLimit (now r)) (stepLimit (now r))) × (length (now out) ≡ 1024)) ⌝ }
+    requires { ⌜ (i < objectLimit (now r)) × ((n ≤ objectLimit (now r)) × (at + length (now b) ≤ 1184)) ⌝ }
     ensures { λ ok. ⌜ (ok ≡ isSome (changed tag i at (now (b .entry)) n (area (now (r .entry))))) × ((ok ≡ true → changed tag i at (now (b .entry)) n (area (now (r .entry))) ≡ some (now (w .exit)))) ⌝ }
 {
     push(r, w, tag, i);
@@ -60,8 +60,8 @@ fn change_in(
     b: &[u8],
     n: usize,
 ) -> Answer
-    requires { ⌜ Head (now r) × ((length (now w) ≡ roomFor (limit (now r)) (depth (now r))) × (length (now out) ≡ 1024)) ⌝ }
-    requires { ⌜ (i < limit (now r)) × ((n ≤ limit (now r)) × (at + length (now b) ≤ 1184)) ⌝ }
+    requires { ⌜ Head (now r) × ((length (now w) ≡ roomFor (objectLimit (now r)) (stepLimit (now r))) × (length (now out) ≡ 1024)) ⌝ }
+    requires { ⌜ (i < objectLimit (now r)) × ((n ≤ objectLimit (now r)) × (at + length (now b) ≤ 1184)) ⌝ }
     ensures { λ a. ⌜ (a ≡ changeTo tag i at (now (b .entry)) n (now (r .entry)) .answer) × (now (r .exit) ≡ changeTo tag i at (now (b .entry)) n (now (r .entry)) .bytes) ⌝ }
 {
     if change_copy(r, w, out, tag, i, at, b, n) {
@@ -78,7 +78,7 @@ fn change_in(
 // A change of a small room, and of any: an array is cleared whole each time, so a small room's copy lies in a small one.
 fn change_small(r: &mut [u8], tag: u8, i: usize, at: usize, b: &[u8], n: usize) -> Answer
     requires { ⌜ Head (now r) × (length (now r) ≤ 55400) ⌝ }
-    requires { ⌜ (i < limit (now r)) × ((n ≤ limit (now r)) × (at + length (now b) ≤ 1184)) ⌝ }
+    requires { ⌜ (i < objectLimit (now r)) × ((n ≤ objectLimit (now r)) × (at + length (now b) ≤ 1184)) ⌝ }
     ensures { λ a. ⌜ (a ≡ changeTo tag i at (now (b .entry)) n (now (r .entry)) .answer) × (now (r .exit) ≡ changeTo tag i at (now (b .entry)) n (now (r .entry)) .bytes) ⌝ }
 {
     let end = area_of(r);
@@ -89,7 +89,7 @@ fn change_small(r: &mut [u8], tag: u8, i: usize, at: usize, b: &[u8], n: usize) 
 
 fn change_large(r: &mut [u8], tag: u8, i: usize, at: usize, b: &[u8], n: usize) -> Answer
     requires { ⌜ Head (now r) ⌝ }
-    requires { ⌜ (i < limit (now r)) × ((n ≤ limit (now r)) × (at + length (now b) ≤ 1184)) ⌝ }
+    requires { ⌜ (i < objectLimit (now r)) × ((n ≤ objectLimit (now r)) × (at + length (now b) ≤ 1184)) ⌝ }
     ensures { λ a. ⌜ (a ≡ changeTo tag i at (now (b .entry)) n (now (r .entry)) .answer) × (now (r .exit) ≡ changeTo tag i at (now (b .entry)) n (now (r .entry)) .bytes) ⌝ }
 {
     let end = area_of(r);
@@ -100,7 +100,7 @@ fn change_large(r: &mut [u8], tag: u8, i: usize, at: usize, b: &[u8], n: usize) 
 
 // Puts b at a place of object i's own data, n objects standing then: a change, unless a list would pass 1,024 bytes.
 pub(crate) fn change(r: &mut [u8], tag: u8, i: usize, at: usize, b: &[u8], n: usize) -> Answer
-    requires { ⌜ Head (now r) × ((i < limit (now r)) × ((n ≤ limit (now r)) × (at + length (now b) ≤ 1184))) ⌝ }
+    requires { ⌜ Head (now r) × ((i < objectLimit (now r)) × ((n ≤ objectLimit (now r)) × (at + length (now b) ≤ 1184))) ⌝ }
     ensures { λ a. ⌜ (a ≡ changeTo tag i at (now (b .entry)) n (now (r .entry)) .answer) × (now (r .exit) ≡ changeTo tag i at (now (b .entry)) n (now (r .entry)) .bytes) ⌝ }
 {
     if r.len() <= SMALL {
@@ -111,9 +111,9 @@ pub(crate) fn change(r: &mut [u8], tag: u8, i: usize, at: usize, b: &[u8], n: us
 
 // The room's area to w, with the latest change undone.
 fn undo_copy(r: &[u8], w: &mut [u8], out: &mut [u8]) -> bool
-    requires { ⌜ Head (now r) × ((length (now w) ≡ roomFor (limit (now r)) (depth (now r))) × (length (now out) ≡ 1024)) ⌝ }
-    requires { ⌜ (0 < kept (now r)) × (numberOf (latest (now r)) < limit (now r)) ⌝ }
-    ensures { λ ok. ⌜ (ok ≡ isSome (undone (area (now (r .entry))))) × ((ok ≡ true → undone (area (now (r .entry))) ≡ some (now (w .exit)))) ⌝ }
+    requires { ⌜ Head (now r) × ((length (now w) ≡ roomFor (objectLimit (now r)) (stepLimit (now r))) × (length (now out) ≡ 1024)) ⌝ }
+    requires { ⌜ (0 < keptSteps (now r)) × (stepObject (latest (now r)) < objectLimit (now r)) ⌝ }
+    ensures { λ ok. ⌜ (ok ≡ isSome (stepTakenBack (area (now (r .entry))))) × ((ok ≡ true → stepTakenBack (area (now (r .entry))) ≡ some (now (w .exit)))) ⌝ }
 {
     pop(r, w);
     let u = step(r, number_in(r, 0), 0);
@@ -127,8 +127,8 @@ fn undo_copy(r: &[u8], w: &mut [u8], out: &mut [u8]) -> bool
 }
 
 fn undo_in(r: &mut [u8], w: &mut [u8], out: &mut [u8]) -> Answer
-    requires { ⌜ Head (now r) × ((length (now w) ≡ roomFor (limit (now r)) (depth (now r))) × (length (now out) ≡ 1024)) ⌝ }
-    requires { ⌜ (0 < kept (now r)) × (numberOf (latest (now r)) < limit (now r)) ⌝ }
+    requires { ⌜ Head (now r) × ((length (now w) ≡ roomFor (objectLimit (now r)) (stepLimit (now r))) × (length (now out) ≡ 1024)) ⌝ }
+    requires { ⌜ (0 < keptSteps (now r)) × (stepObject (latest (now r)) < objectLimit (now r)) ⌝ }
     ensures { λ a. ⌜ (a ≡ takeBackTo (now (r .entry)) .answer) × (now (r .exit) ≡ takeBackTo (now (r .entry)) .bytes) ⌝ }
 {
     if undo_copy(r, w, out) {
@@ -149,7 +149,7 @@ fn undo_in(r: &mut [u8], w: &mut [u8], out: &mut [u8]) -> Answer
 // An undo in a small room, and in any.
 fn undo_small(r: &mut [u8]) -> Answer
     requires { ⌜ Head (now r) × (length (now r) ≤ 55400) ⌝ }
-    requires { ⌜ (0 < kept (now r)) × (numberOf (latest (now r)) < limit (now r)) ⌝ }
+    requires { ⌜ (0 < keptSteps (now r)) × (stepObject (latest (now r)) < objectLimit (now r)) ⌝ }
     ensures { λ a. ⌜ (a ≡ takeBackTo (now (r .entry)) .answer) × (now (r .exit) ≡ takeBackTo (now (r .entry)) .bytes) ⌝ }
 {
     let end = area_of(r);
@@ -160,7 +160,7 @@ fn undo_small(r: &mut [u8]) -> Answer
 
 fn undo_large(r: &mut [u8]) -> Answer
     requires { ⌜ Head (now r) ⌝ }
-    requires { ⌜ (0 < kept (now r)) × (numberOf (latest (now r)) < limit (now r)) ⌝ }
+    requires { ⌜ (0 < keptSteps (now r)) × (stepObject (latest (now r)) < objectLimit (now r)) ⌝ }
     ensures { λ a. ⌜ (a ≡ takeBackTo (now (r .entry)) .answer) × (now (r .exit) ≡ takeBackTo (now (r .entry)) .bytes) ⌝ }
 {
     let end = area_of(r);
@@ -171,7 +171,7 @@ fn undo_large(r: &mut [u8]) -> Answer
 
 // Takes off the latest change, unless a list would pass 1,024 bytes.
 pub(crate) fn take_back(r: &mut [u8]) -> Answer
-    requires { ⌜ Head (now r) × ((0 < kept (now r)) × (numberOf (latest (now r)) < limit (now r))) ⌝ }
+    requires { ⌜ Head (now r) × ((0 < keptSteps (now r)) × (stepObject (latest (now r)) < objectLimit (now r))) ⌝ }
     ensures { λ a. ⌜ (a ≡ takeBackTo (now (r .entry)) .answer) × (now (r .exit) ≡ takeBackTo (now (r .entry)) .bytes) ⌝ }
 {
     if r.len() <= SMALL {

@@ -3,8 +3,8 @@ ghost use mathlib.Core.Path.{_≡_};
 ghost use Prim.Native.Nat.{_<_};
 ghost use Rattle.inherit.specs.Compute.{ruleOk};
 ghost use Rattle.tree.specs.General.{every};
-ghost use Rattle.tree.specs.Room.{own as Room·own, step as Room·step};
-ghost use Rattle.tree.specs.Formed.{headOk, settingsOk, placed as Formed·placed, objectOk, againOk, stepOk, standing as Formed·standing, stepsOk, formed as Formed·formed};
+ghost use Rattle.tree.specs.Room.{ownData as Room·own, step as Room·step};
+ghost use Rattle.tree.specs.Formed.{countsOk, settingsOk, placedIn as Formed·placed, objectOk, againOk, stepOk, standing as Formed·standing, stepsOk, formed as Formed·formed};
 use crate::held::alike;
 use crate::held::block_ok;
 use crate::held::number_in;
@@ -17,7 +17,7 @@ use list::byte_in;
 use list::part_of;
 
 fn head_ok(r: &[u8]) -> bool
-    ensures { λ b. ⌜ b ≡ headOk (now (r .entry)) ⌝ }
+    ensures { λ b. ⌜ b ≡ countsOk (now (r .entry)) ⌝ }
 {
     if r.len() < 1048 {
         return false;

@@ -4,7 +4,7 @@ ghost use Prim.Native.Nat.{_<_};
 ghost use lib.ListN.{getD};
 ghost use Rattle.inherit.specs.Compute.{ordinary as Compute·ordinary};
 ghost use Rattle.tree.specs.Held.{hasList, bytesIn, held, isDone, slotOk, idIn, idOk, blockOk, alike as Held·alike};
-ghost use Rattle.tree.specs.Calls.{told as Calls·told};
+ghost use Rattle.tree.specs.Calls.{toldAs as Calls·told};
 use crate::Answer;
 use list::Reading;
 use list::byte_in;

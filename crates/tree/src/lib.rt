@@ -5,9 +5,10 @@ ghost use Prim.Native.Nat.{_≤_};
 ghost use lib.ListN.{length};
 ghost use Rattle.list.specs.Bytes.{front};
 ghost use Rattle.inherit.specs.Asked.{lent};
+ghost use Rattle.tree.specs.Model.{shortIf as Calls·short};
 ghost use Rattle.tree.specs.Held.{held};
 ghost use Rattle.tree.specs.Room.{roomFor, roomOf, emptyRoom};
-ghost use Rattle.tree.specs.Calls.{list as Edit·list, mark as Edit·mark, owners as Edit·owners, short as Calls·short, told as Calls·told, startOk, bytesIf, dataOf, copied, startTo, addTo, alterTo, undoTo, listTo, ownTo, dataTo, countsTo};
+ghost use Rattle.tree.specs.Calls.{list as Edit·list, mark as Edit·mark, owners as Edit·owners, toldAs as Calls·told, startOk, listBytes, dataOf, copied, startTo, addTo, alterTo, undoTo, listTo, ownTo, dataTo, countsTo};
 ghost use Rattle.tree.specs.declared.Answer.the-variants.{Done as Answer·Done, Refused as Answer·Refused};
 use changes::change;
 use changes::take_back;
@@ -295,7 +296,7 @@ pub fn undo(room: &mut [u8]) -> Answer
 
 // A slot's list on the front of out.
 fn give_list(s: &[u8], out: &mut [u8]) -> Answer
-    ensures { λ a. ⌜ (a ≡ copied (Calls·told (held (now (s .entry)))) (bytesIf (held (now (s .entry)))) (now (out .entry)) .answer) × (now (out .exit) ≡ copied (Calls·told (held (now (s .entry)))) (bytesIf (held (now (s .entry)))) (now (out .entry)) .bytes) ⌝ }
+    ensures { λ a. ⌜ (a ≡ copied (Calls·told (held (now (s .entry)))) (listBytes (held (now (s .entry)))) (now (out .entry)) .answer) × (now (out .exit) ≡ copied (Calls·told (held (now (s .entry)))) (listBytes (held (now (s .entry)))) (now (out .entry)) .bytes) ⌝ }
 {
     if !has_list(s) {
         return told(s);

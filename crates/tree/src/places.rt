@@ -1,7 +1,7 @@
 // Where the parts of a room lie.
 ghost use mathlib.Core.Path.{_≡_};
 ghost use Prim.Native.Nat.{_<_};
-ghost use Rattle.tree.specs.Room.{own as Room·own, slot as Room·slot, step as Room·step, settings as Room·settings};
+ghost use Rattle.tree.specs.Room.{ownData as Room·own, slot as Room·slot, step as Room·step, settings as Room·settings};
 use list::part_of;
 
 // The settings: rule, mapping, default list.

@@ -4,7 +4,7 @@ ghost use mathlib.Core.List.{_∷_};
 ghost use Prim.Native.Nat.{_+_, _≤_, _<_};
 ghost use lib.ListN.{length};
 ghost use Rattle.list.specs.Bytes.{putAt};
-ghost use Rattle.tree.specs.Room.{limit, depth, kept, roomFor, own as Room·own, area};
+ghost use Rattle.tree.specs.Room.{objectLimit, stepLimit, keptSteps, roomFor, ownData as Room·own, area};
 ghost use Rattle.tree.specs.Formed.{Head};
 ghost use Rattle.tree.specs.Calls.{shifted, pushed, popped};
 use crate::held::number_in;
@@ -15,7 +15,7 @@ use list::part_of;
 
 // The room's area to w, with place for a step in front.
 fn shift(r: &[u8], w: &mut [u8])
-    requires { ⌜ Head (now r) × ((0 < depth (now r)) × (length (now w) ≡ roomFor (limit (now r)) (depth (now r)))) ⌝ }
+    requires { ⌜ Head (now r) × ((0 < stepLimit (now r)) × (length (now w) ≡ roomFor (objectLimit (now r)) (stepLimit (now r)))) ⌝ }
     ensures { λ _. ⌜ now (w .exit) ≡ shifted (area (now (r .entry))) ⌝ }
 {
     let n = number_in(r, 0);
@@ -40,7 +40,7 @@ fn lay_step(w: &mut [u8], at: usize, tag: u8, i: u8, b: &[u8])
 
 // The room's area to w, with a step kept for object i.
 pub(crate) fn push(r: &[u8], w: &mut [u8], tag: u8, i: usize)
-    requires { ⌜ Head (now r) × ((length (now w) ≡ roomFor (limit (now r)) (depth (now r))) × (i < limit (now r))) ⌝ }
+    requires { ⌜ Head (now r) × ((length (now w) ≡ roomFor (objectLimit (now r)) (stepLimit (now r))) × (i < objectLimit (now r))) ⌝ }
     ensures { λ _. ⌜ now (w .exit) ≡ pushed (tag ∷ i ∷ Room·own i (area (now (r .entry)))) (area (now (r .entry))) ⌝ }
 {
     let n = number_in(r, 0);
@@ -55,7 +55,7 @@ pub(crate) fn push(r: &[u8], w: &mut [u8], tag: u8, i: usize)
 
 // The room's area to w, with the latest step taken off.
 pub(crate) fn pop(r: &[u8], w: &mut [u8])
-    requires { ⌜ Head (now r) × ((0 < kept (now r)) × (length (now w) ≡ roomFor (limit (now r)) (depth (now r)))) ⌝ }
+    requires { ⌜ Head (now r) × ((0 < keptSteps (now r)) × (length (now w) ≡ roomFor (objectLimit (now r)) (stepLimit (now r)))) ⌝ }
     ensures { λ _. ⌜ now (w .exit) ≡ popped (area (now (r .entry))) ⌝ }
 {
     let n = number_in(r, 0);

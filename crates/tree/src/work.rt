@@ -8,10 +8,10 @@ ghost use lib.Dec.{eqb};
 ghost use Rattle.inherit.specs.Asked.{given};
 ghost use Rattle.inherit.specs.Compute.{Answers};
 ghost use Rattle.tree.specs.General.{isSome, orElse};
-ghost use Rattle.tree.specs.Held.{held, kindOf, markOf, ownList};
+ghost use Rattle.tree.specs.Held.{held, kindByte, markByte, ownList};
 ghost use Rattle.tree.specs.Room.{ownAt, slotAt, mappingOf, defaultOf};
-ghost use Rattle.tree.specs.Work.{askedIn, above as Work·above, rework, reworked};
-ghost use Rattle.tree.specs.Calls.{settled};
+ghost use Rattle.tree.specs.Work.{askedIn, aboveIn as Work·above, rework, reworked};
+ghost use Rattle.tree.specs.Calls.{reworkedWith};
 use crate::held::bytes_in;
 use crate::held::has_list;
 use crate::held::id_in;
@@ -43,7 +43,7 @@ fn mapping_in(e: &[u8]) -> Mapping
 
 // The settings of an object's computation: its parent's slot p, its own data b.
 fn settings_in(e: &[u8], p: &[u8], b: &[u8]) -> Settings
-    ensures { λ s. ⌜ s ≡ record { parent = given (held (now (p .entry))); creator = given (ownList (now (b .entry))); default = given (defaultOf (now (e .entry))); container = eqb (kindOf (now (b .entry))) 1; auto = true; defaulted = false; protect = eqb (markOf (now (b .entry))) 1 } ⌝ }
+    ensures { λ s. ⌜ s ≡ record { parent = given (held (now (p .entry))); creator = given (ownList (now (b .entry))); default = given (defaultOf (now (e .entry))); container = eqb (kindByte (now (b .entry))) 1; auto = true; defaulted = false; protect = eqb (markByte (now (b .entry))) 1 } ⌝ }
 {
     Settings {
         parent: has_list(p),
@@ -133,7 +133,7 @@ fn rework_all(w: &mut [u8], out: &mut [u8], n: usize) -> bool
 // Puts b at its place, lets n objects stand, and works every list out again.
 pub(crate) fn settle(w: &mut [u8], out: &mut [u8], at: usize, b: &[u8], n: usize) -> bool
     requires { ⌜ (n < 256) × ((ownAt n ≤ length (now w)) × ((length (now out) ≡ 1024) × (at + length (now b) ≤ length (now w)))) ⌝ }
-    ensures { λ ok. ⌜ (ok ≡ isSome (settled at (now (b .entry)) n (now (w .entry)))) × ((ok ≡ true → settled at (now (b .entry)) n (now (w .entry)) ≡ some (now (w .exit)))) ⌝ }
+    ensures { λ ok. ⌜ (ok ≡ isSome (reworkedWith at (now (b .entry)) n (now (w .entry)))) × ((ok ≡ true → reworkedWith at (now (b .entry)) n (now (w .entry)) ≡ some (now (w .exit)))) ⌝ }
 {
     lay(w, at, b);
     w[2] = n as u8;

@@ -7,8 +7,8 @@ ghost use Prim.Native.Nat.{_+_, _≤_, min};
 ghost use lib.ListN.{length, replicate};
 ghost use Rattle.list.specs.Bytes.{putAt, spell};
 ghost use Rattle.inherit.specs.Asked.{lent};
+ghost use Rattle.tree.specs.Model.{shortIf};
 ghost use Rattle.tree.specs.Held.{yes, slotFor, idFor, blockFor};
-ghost use Rattle.tree.specs.Calls.{short};
 ghost use Rattle.tree.specs.Room.{settingsFor};
 use inherit::Mapping;
 
@@ -60,7 +60,7 @@ pub(crate) fn lay_list(w: &mut [u8], at: usize, s: &[u8])
 
 // The slot of a list, or of none: then s is not looked at.
 pub(crate) fn lay_slot(w: &mut [u8], at: usize, has: bool, s: &[u8])
-    requires { ⌜ (short (lent has (now s)) ≡ true) × (at + 1027 ≤ length (now w)) ⌝ }
+    requires { ⌜ (shortIf (lent has (now s)) ≡ true) × (at + 1027 ≤ length (now w)) ⌝ }
     ensures { λ _. ⌜ now (w .exit) ≡ putAt at (slotFor (lent has (now (s .entry)))) (now (w .entry)) ⌝ }
 {
     if has {
@@ -102,7 +102,7 @@ pub(crate) fn lay_new(
     has: bool,
     s: &[u8],
 )
-    requires { ⌜ (length (now owner) ≤ 68) × ((length (now group) ≤ 68) × ((short (lent has (now s)) ≡ true) × (length (now w) ≡ 1184))) ⌝ }
+    requires { ⌜ (length (now owner) ≤ 68) × ((length (now group) ≤ 68) × ((shortIf (lent has (now s)) ≡ true) × (length (now w) ≡ 1184))) ⌝ }
     ensures { λ _. ⌜ now (w .exit) ≡ blockFor (record { parent = parent; container = container; mark = mark; type = kind; owner = now (owner .entry); group = now (group .entry); list = lent has (now (s .entry)) }) ⌝ }
 {
     w[0] = least(255, parent) as u8;
@@ -129,7 +129,7 @@ pub(crate) fn lay_word(w: &mut [u8], at: usize, m: u32)
 
 // The settings: rule, mapping, default list.
 pub(crate) fn lay_settings(w: &mut [u8], at: usize, rule: u8, m: Mapping, has: bool, default: &[u8])
-    requires { ⌜ (short (lent has (now default)) ≡ true) × (at + 1044 ≤ length (now w)) ⌝ }
+    requires { ⌜ (shortIf (lent has (now default)) ≡ true) × (at + 1044 ≤ length (now w)) ⌝ }
     ensures { λ _. ⌜ now (w .exit) ≡ putAt at (settingsFor rule m (lent has (now (default .entry)))) (now (w .entry)) ⌝ }
 {
     w[at] = rule;

@@ -9,7 +9,7 @@ use Rattle.inherit.specs.declared.Mapping.{Mapping}
 use Rattle.inherit.specs.declared.Computed.{Computed}
 use Rattle.inherit.specs.Asked.{Asked}
 use Rattle.inherit.specs.Compute.{computedValues, askedBy, Answers}
-use Rattle.capi.specs.Places.{placesOf, settingsOf, mappingOf, Computes}
+use Rattle.capi.specs.Places.{placesOf, settingsOf, mappingFrom, Computes}
 use Rattle.capi.proofs.pt_compute.Statement.{statement}
 use Rattle.capi.proofs.pt_compute.Tie as tie
 
@@ -24,7 +24,7 @@ asked-by t s m =
     askedBy (a .rule) s m (now (a .parent)) (now (a .creator)) (now (a .default)) (now (a .types)) (now (a .owner)) (now (a .group))
 
 abbrev asked : tie.Start → Asked
-asked t = asked-by t (settingsOf (t .args .settings)) (mappingOf (now (t .args .mapping)))
+asked t = asked-by t (settingsOf (t .args .settings)) (mappingFrom (now (t .args .mapping)))
 
 -- the call's answer and its buffer are those of what is asked
 answers-here : (c : tie.After-compute) → Answers (asked (start c)) (now (start c .args .out)) (c .compute .result) (c .compute .last .1 .1 .1 .1 .1 .1 .1 .1 .1 .0)

@@ -1,4 +1,4 @@
--- Each return is a case of `headOk`. Assumes nothing.
+-- Each return is a case of `scriptHeadOk`. Assumes nothing.
 use borrow.Author.Needs.{needs}
 use native.Mathlib.Omega.{arith}
 use mathlib.Core.Path.{ap}
@@ -7,19 +7,19 @@ use denote.Ref.{now}
 use lib.Dec.{eqb}
 use lib.ListN.{length, getD}
 use borrow.Author.Tests.{le-leb, lt-leb, eq-eqb, ne-eqb}
-use Rattle.script.specs.Play.{headOk}
+use Rattle.script.specs.Play.{scriptHeadOk}
 use Rattle.script.proofs.head_ok.Statement.{statement}
 use Rattle.script.proofs.head_ok.Tie as tie
 
 returns : tie.Need-returns
-unfolding headOk
+unfolding scriptHeadOk
 returns c = let s = now (c .before .before .args .script) in simp (lt-leb 5 (length s) (omega arith))
 
 byte-in-requires : tie.Need-byte-in-requires
 byte-in-requires c κs = search needs
 
 returns-2 : tie.Need-returns-2
-unfolding headOk
+unfolding scriptHeadOk
 returns-2 c =
     let s = now (c .before .before .before .before .args .script) in
     simp (le-leb 5 (length s) (omega arith), ne-eqb (getD s 0 0) 65 (λ e. omega arith))
@@ -28,7 +28,7 @@ byte-in-requires-2 : tie.Need-byte-in-requires-2
 byte-in-requires-2 c κs = search needs
 
 returns-3 : tie.Need-returns-3
-unfolding headOk
+unfolding scriptHeadOk
 returns-3 c =
     let s = now (c .before .before .before .before .before .before .args .script) in
     simp (
@@ -41,7 +41,7 @@ byte-in-requires-3 : tie.Need-byte-in-requires-3
 byte-in-requires-3 c κs = search needs
 
 returns-4 : tie.Need-returns-4
-unfolding headOk
+unfolding scriptHeadOk
 returns-4 c =
     let s = now (c .before .before .before .before .before .before .before .before .args .script) in
     simp (
@@ -55,7 +55,7 @@ half-in-requires : tie.Need-half-in-requires
 half-in-requires c κs = search needs
 
 returns-5 : tie.Need-returns-5
-unfolding headOk
+unfolding scriptHeadOk
 returns-5 c =
     let s = now (c .before .before .before .before .before .before .before .before .before .args .script) in
     simp (

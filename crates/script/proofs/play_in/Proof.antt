@@ -5,12 +5,12 @@ use mathlib.Core.Path.{_≡_, refl, sym, _∙_}
 use mathlib.Core.Bool.{true}
 use denote.Ref.{now}
 use borrow.Author.Tests.{not-true, not-false}
-use Rattle.script.specs.Play.{headOk}
+use Rattle.script.specs.Play.{scriptHeadOk}
 use Rattle.script.proofs.Plays.{Ran, head-long, plays-head, ran, ran-within, plays-bad, plays-whole}
 use Rattle.script.proofs.play_in.Statement.{statement}
 use Rattle.script.proofs.play_in.Tie as tie
 
-head-yes : (c : tie.Else1) → headOk (now (c .before .before .before .before .before .args .script)) ≡ true
+head-yes : (c : tie.Else1) → scriptHeadOk (now (c .before .before .before .before .before .args .script)) ≡ true
 head-yes c = sym (c .before .head-ok .ensures) ∙ not-false _ (c .if1 .left)
 
 -- as the function was entered

@@ -9,7 +9,7 @@ use lib.ListN.{length}
 use Rattle.list.specs.Bytes.{front}
 use Rattle.list.proofs.Writes.{put-all}
 use Rattle.tree.specs.Held.{bytesIn}
-use Rattle.tree.specs.Calls.{bytesIf}
+use Rattle.tree.specs.Calls.{listBytes}
 use Rattle.tree.proofs.Tested.{refused, passed}
 use Rattle.tree.proofs.Answered.{settle, absent-copied, copied-all, copied-none}
 use Rattle.tree.proofs.give_list.Statement.{statement}
@@ -33,7 +33,7 @@ refused-requires : tie.Need-refused-requires
 refused-requires c κs = search needs
 
 returns-2 : tie.Need-returns-2
-unfolding bytesIf
+unfolding listBytes
 returns-2 c =
     let e = passed (c .before .before .before .before .has-list .ensures) (c .before .before .before .if1 .left) in
     let s = now (c .before .before .before .before .before .before .before .args .s) in
@@ -49,7 +49,7 @@ same-length : tie.Need-same-length
 same-length c = search needs
 
 returns-3 : tie.Need-returns-3
-unfolding bytesIf
+unfolding listBytes
 returns-3 c =
     let p = c .before .before .before in
     let q = p .before .before .before in

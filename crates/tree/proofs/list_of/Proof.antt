@@ -5,7 +5,7 @@ use mathlib.Core.List.{List}
 use Prim.Native.Nat.{ℕ}
 use denote.Ref.{now}
 use Rattle.tree.specs.Held.{held}
-use Rattle.tree.specs.Calls.{told, bytesIf, copied, listTo}
+use Rattle.tree.specs.Calls.{toldAs, listBytes, copied, listTo}
 use Rattle.tree.specs.Faults.{objectFault}
 use Rattle.tree.proofs.Answered.{settle, on-object-good, on-object-bad, object-small}
 use Rattle.tree.proofs.list_of.Statement.{statement}
@@ -44,7 +44,7 @@ returns-2 c =
     let a = s .before .before .before .before .before .args in
     settle
     (on-object-good (now (a .room)) (a .object) _ _ (good (s .before))
-    ∙ ap (λ (x : List ℕ). copied (told (held x)) (bytesIf (held x)) (now (a .out))) (sym (s .slot .ensures)))
+    ∙ ap (λ (x : List ℕ). copied (toldAs (held x)) (listBytes (held x)) (now (a .out))) (sym (s .slot .ensures)))
     (g .give-list .ensures .0) (g .give-list .ensures .1)
 
 pub list-of-spec : {M : Type 1} → statement M

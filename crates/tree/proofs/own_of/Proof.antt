@@ -6,7 +6,7 @@ use Prim.Native.Nat.{ℕ}
 use denote.Ref.{now}
 use Rattle.list.specs.Bytes.{part}
 use Rattle.tree.specs.Held.{held}
-use Rattle.tree.specs.Calls.{told, bytesIf, copied, ownTo}
+use Rattle.tree.specs.Calls.{toldAs, listBytes, copied, ownTo}
 use Rattle.tree.specs.Faults.{objectFault}
 use Rattle.tree.proofs.Answered.{settle, on-object-good, on-object-bad, object-small}
 use Rattle.tree.proofs.own_of.Statement.{statement}
@@ -50,7 +50,7 @@ returns-2 c =
     let e = p .part-of .ensures ∙ ap (part 157 1027) (o .own .ensures) in
     settle
     (on-object-good (now (a .room)) (a .object) _ _ (good (o .before))
-    ∙ ap (λ (x : List ℕ). copied (told (held x)) (bytesIf (held x)) (now (a .out))) (sym e))
+    ∙ ap (λ (x : List ℕ). copied (toldAs (held x)) (listBytes (held x)) (now (a .out))) (sym e))
     (g .give-list .ensures .0) (g .give-list .ensures .1)
 
 pub own-of-spec : {M : Type 1} → statement M

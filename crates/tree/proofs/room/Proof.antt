@@ -2,7 +2,8 @@
 use borrow.Author.Needs.{needs}
 use native.Mathlib.Omega.{arith}
 use borrow.Author.Tests.{le-leb, lt-leb}
-use Rattle.tree.specs.Room.{limitsOk, roomOf}
+use Rattle.tree.specs.Model.{limitsOk}
+use Rattle.tree.specs.Room.{roomOf}
 use Rattle.tree.proofs.room.Statement.{statement}
 use Rattle.tree.proofs.room.Tie as tie
 

@@ -6,10 +6,11 @@ use mathlib.Core.Bool.{true}
 use denote.Ref.{now}
 use lib.ListN.{length}
 use Rattle.inherit.specs.Asked.{lent}
+use Rattle.tree.specs.Model.{shortIf}
 use Rattle.tree.specs.declared.Answer.{Answer}
 use Rattle.tree.specs.declared.Answer.the-variants.{Refused}
 use Rattle.tree.specs.declared.tests.Fault.{Fault}
-use Rattle.tree.specs.Calls.{short, startOk, startTo}
+use Rattle.tree.specs.Calls.{startOk, startTo}
 use Rattle.tree.specs.Faults.{faultOf}
 use Rattle.tree.proofs.Tested.{refused, passed}
 use Rattle.tree.proofs.Answered.{settle, need-yes, need-no, readable-good, readable-bad, start-facts}
@@ -25,7 +26,7 @@ list-yes : (c : tie.Else2)
 list-yes c = sym (ap (λ (x : Fault). x .number) (c .before .before .fault-of .ensures)) ∙ c .if2 .left
 
 short-yes : (c : tie.Else3)
-    → let a = c .before .before .before .before .before .before .before .before .before .args in short (lent (a .has) (now (a .default))) ≡ true
+    → let a = c .before .before .before .before .before .before .before .before .before .args in shortIf (lent (a .has) (now (a .default))) ≡ true
 short-yes c = passed (c .before .short .ensures) (c .if3 .left)
 
 start-ok-requires : tie.Need-start-ok-requires

@@ -5,7 +5,7 @@ use Prim.Native.Nat.{ℕ}
 use denote.Ref.{now}
 use Rattle.tree.specs.Calls.{addTo}
 use Rattle.tree.specs.Held.{New}
-use Rattle.script.specs.Record.{nameIn, nameEnd, namesEnd, listIn, parentOf}
+use Rattle.script.specs.Record.{nameIn, nameEnd, namesEnd, listIn, parentNamed}
 use Rattle.script.proofs.Tables.{name-by, list-by, new-by}
 use Rattle.script.proofs.records.add.Statement.{statement}
 use Rattle.script.proofs.records.add.Tie as tie
@@ -85,7 +85,7 @@ returns c =
     let g : sizes .before .before .name-end .result ≡ nameEnd 20 t = sizes .before .before .name-end .ensures .0 in
     let l : sizes .before .name-end2 .result ≡ namesEnd 20 t = sizes .before .name-end2 .ensures .0 ∙ ap (λ (x : ℕ). nameEnd x t) g in
     let new = new-by t _ _ _ _ _ _ _
-    (parent .parent-of .ensures ∙ ap parentOf (parent .before .byte-in .ensures))
+    (parent .parent-of .ensures ∙ ap parentNamed (parent .before .byte-in .ensures))
     (traits .before .flag .ensures)
     (traits .flag2 .ensures)
     (type .guid-at .ensures)

@@ -6,7 +6,7 @@ use denote.Ref.{now}
 use lib.ListN.{length}
 use borrow.Author.Tests.{le-leb, lt-leb, not-true, not-false}
 use Rattle.script.specs.declared.records.Found.the-variants.{Record}
-use Rattle.script.specs.Record.{sizeOf, stepOf}
+use Rattle.script.specs.Record.{recordSize, stepOf}
 use Rattle.script.proofs.records.step.Statement.{statement}
 use Rattle.script.proofs.records.step.Tie as tie
 
@@ -15,7 +15,7 @@ size-requires c κs = search needs
 
 returns : tie.Need-returns
 unfolding stepOf
-returns c = let t = now (c .before .before .before .args .t) in simp (lt-leb (sizeOf t) (length t) (omega arith))
+returns c = let t = now (c .before .before .before .args .t) in simp (lt-leb (recordSize t) (length t) (omega arith))
 
 form-ok-requires : tie.Need-form-ok-requires
 form-ok-requires c κs = search needs
@@ -24,7 +24,7 @@ returns-2 : tie.Need-returns-2
 unfolding stepOf
 returns-2 c =
     let t = now (c .before .before .before .before .before .args .t) in
-    simp (le-leb (sizeOf t) (length t) (omega arith), sym (c .before .form-ok .ensures) ∙ not-true _ (c .if2 .taken))
+    simp (le-leb (recordSize t) (length t) (omega arith), sym (c .before .form-ok .ensures) ∙ not-true _ (c .if2 .taken))
 
 byte-in-requires : tie.Need-byte-in-requires
 byte-in-requires c κs = search needs
@@ -33,7 +33,7 @@ returns-3 : tie.Need-returns-3
 unfolding stepOf
 returns-3 c =
     let t = now (c .before .before .before .before .before .before .args .t) in
-    simp (le-leb (sizeOf t) (length t) (omega arith), sym (c .before .before .form-ok .ensures) ∙ not-false _ (c .before .if2 .left))
+    simp (le-leb (recordSize t) (length t) (omega arith), sym (c .before .before .form-ok .ensures) ∙ not-false _ (c .before .if2 .left))
     (ap₂ Record (c .before .before .before .before .size .ensures) (c .byte-in .ensures))
 
 pub step-spec : {M : Type 1} → statement M

@@ -6,7 +6,7 @@ use Prim.Native.Nat.{ℕ}
 use denote.Ref.{now}
 use borrow.Author.Tests.{lt-ltb, le-ltb}
 use Rattle.tree.specs.Held.{blockOk, alike}
-use Rattle.tree.specs.Room.{own, numberOf}
+use Rattle.tree.specs.Room.{ownData, stepObject}
 use Rattle.tree.specs.Formed.{againOk}
 use Rattle.tree.proofs.Tested.{refused, passed}
 use Rattle.tree.proofs.formed.again_ok.Statement.{statement}
@@ -19,7 +19,7 @@ returns : tie.Need-returns
 unfolding againOk
 returns c =
     let a = c .before .before .before .before .args in
-    simp (le-ltb (numberOf (now (a .u))) (a .c) (omega arith))
+    simp (le-ltb (stepObject (now (a .u))) (a .c) (omega arith))
 
 part-of-requires : tie.Need-part-of-requires
 part-of-requires c κs = search needs
@@ -32,7 +32,7 @@ unfolding againOk
 returns-2 c =
     let a = c .before .before .before .before .before .before .before .args in
     let e = c .before .block-ok .ensures ∙ ap blockOk (c .before .before .part-of .ensures) in
-    simp (lt-ltb (numberOf (now (a .u))) (a .c) (omega arith), refused e (c .if2 .taken))
+    simp (lt-ltb (stepObject (now (a .u))) (a .c) (omega arith), refused e (c .if2 .taken))
 
 own-requires : tie.Need-own-requires
 own-requires c κs = search needs
@@ -46,8 +46,8 @@ returns-3 c =
     let p = c .before .before .before .before in
     let a = p .before .before .before .before .before .args in
     let e = c .before .before .before .block-ok .ensures ∙ ap blockOk (p .part-of .ensures) in
-    let o = c .before .own .ensures ∙ ap (λ (i : ℕ). own i (now (a .r))) (p .before .before .number-in .ensures .0) in
-    simp (lt-ltb (numberOf (now (a .u))) (a .c) (omega arith), passed e (c .before .before .if2 .left))
+    let o = c .before .own .ensures ∙ ap (λ (i : ℕ). ownData i (now (a .r))) (p .before .before .number-in .ensures .0) in
+    simp (lt-ltb (stepObject (now (a .u))) (a .c) (omega arith), passed e (c .before .before .if2 .left))
     (c .alike .ensures ∙ ap₂ alike (p .part-of .ensures) o)
 
 pub again-ok-spec : {M : Type 1} → statement M

@@ -6,13 +6,13 @@ use mathlib.Core.Bool.{true}
 use Prim.Native.Nat.{ℕ}
 use denote.Ref.{now}
 use Rattle.tree.specs.General.{every}
-use Rattle.tree.specs.Room.{limit, objects, kept, settings, own, step}
-use Rattle.tree.specs.Formed.{headOk, settingsOk, objectOk, stepsOk, formed}
+use Rattle.tree.specs.Room.{objectLimit, objects, keptSteps, settings, ownData, step}
+use Rattle.tree.specs.Formed.{countsOk, settingsOk, objectOk, stepsOk, formed}
 use Rattle.tree.proofs.Tested.{refused, passed}
 use Rattle.tree.proofs.formed.formed.Statement.{statement}
 use Rattle.tree.proofs.formed.formed.Tie as tie
 
-head-yes : (c : tie.Else1) → headOk (now (c .before .before .before .args .r)) ≡ true
+head-yes : (c : tie.Else1) → countsOk (now (c .before .before .before .args .r)) ≡ true
 head-yes c = passed (c .before .head-ok .ensures) (c .if1 .left)
 
 settings-here : (c : tie.After-settings-ok) → c .settings-ok .result ≡ settingsOk (settings (now (c .before .before .before .before .before .args .r)))
@@ -27,8 +27,8 @@ objects-here c =
     let r = now (c .before .before .before .before .before .before .before .before .args .r) in
     c .objects-ok .ensures ∙ ap (every (objectOk r)) (c .before .number-in .ensures .0)
 
-steps-are : (r : List ℕ) {n m k : ℕ} → n ≡ limit r → m ≡ kept r → k ≡ objects r
-    → stepsOk (λ i. own i r) (λ j. step n j r) m 0 k ≡ stepsOk (λ i. own i r) (λ j. step (limit r) j r) (kept r) 0 (objects r)
+steps-are : (r : List ℕ) {n m k : ℕ} → n ≡ objectLimit r → m ≡ keptSteps r → k ≡ objects r
+    → stepsOk (λ i. ownData i r) (λ j. step n j r) m 0 k ≡ stepsOk (λ i. ownData i r) (λ j. step (objectLimit r) j r) (keptSteps r) 0 (objects r)
 steps-are r a b d = simp (a, b, d)
 
 head-ok-requires : tie.Need-head-ok-requires

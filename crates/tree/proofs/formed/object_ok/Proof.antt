@@ -5,29 +5,29 @@ use mathlib.Core.List.{List}
 use mathlib.Core.Bool.{Bool, true}
 use Prim.Native.Nat.{ℕ}
 use denote.Ref.{now}
-use Rattle.tree.specs.Held.{slotOk, blockOk, parentOf}
-use Rattle.tree.specs.Room.{own}
-use Rattle.tree.specs.Formed.{placed, objectOk}
+use Rattle.tree.specs.Held.{slotOk, blockOk, parentByteIn}
+use Rattle.tree.specs.Room.{ownData}
+use Rattle.tree.specs.Formed.{placedIn, objectOk}
 use Rattle.tree.proofs.Tested.{refused, passed}
 use Rattle.tree.proofs.formed.object_ok.Statement.{statement}
 use Rattle.tree.proofs.formed.object_ok.Tie as tie
 
 -- the object's own data, in the room as it was passed
 abbrev own-here : tie.Start → List ℕ
-own-here s = own (s .args .i) (now (s .args .r))
+own-here s = ownData (s .args .i) (now (s .args .r))
 
 block-yes : (c : tie.Else1) → blockOk (own-here (c .before .before .before .before)) ≡ true
 block-yes c = passed (c .before .block-ok .ensures ∙ ap blockOk (c .before .before .own .ensures)) (c .if1 .left)
 
-parent-here : (c : tie.After-number-in) → c .number-in .result ≡ parentOf (own-here (c .before .before .before .before .before))
-parent-here c = c .number-in .ensures .0 ∙ ap (λ (b : List ℕ). parentOf b) (c .before .before .before .own .ensures)
+parent-here : (c : tie.After-number-in) → c .number-in .result ≡ parentByteIn (own-here (c .before .before .before .before .before))
+parent-here c = c .number-in .ensures .0 ∙ ap (λ (b : List ℕ). parentByteIn b) (c .before .before .before .own .ensures)
 
 -- the object has its place below such a parent
 abbrev placed-by : tie.Start → ℕ → Bool
-placed-by s parent = placed 255 (λ j. own j (now (s .args .r))) (s .args .i) parent
+placed-by s parent = placedIn 255 (λ j. ownData j (now (s .args .r))) (s .args .i) parent
 
 placed-here : (c : tie.After-placed)
-    → let s = c .before .before .before .before .before .before in c .placed .result ≡ placed-by s (parentOf (own-here s))
+    → let s = c .before .before .before .before .before .before in c .placed .result ≡ placed-by s (parentByteIn (own-here s))
 placed-here c = c .placed .ensures ∙ ap (placed-by (c .before .before .before .before .before .before)) (parent-here (c .before))
 
 own-requires : tie.Need-own-requires

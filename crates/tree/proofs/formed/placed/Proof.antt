@@ -1,4 +1,4 @@
--- Each return is a case of `placed`. Assumes nothing.
+-- Each return is a case of `placedIn`. Assumes nothing.
 use borrow.Author.Needs.{needs}
 use native.Mathlib.Omega.{arith}
 use mathlib.Core.Path.{ap, _∙_}
@@ -6,13 +6,13 @@ use mathlib.Core.List.{List}
 use Prim.Native.Nat.{ℕ}
 use lib.Dec.{eqb}
 use borrow.Author.Tests.{eq-eqb, ne-eqb, lt-ltb, le-ltb}
-use Rattle.tree.specs.Held.{kindOf}
-use Rattle.tree.specs.Formed.{placed}
+use Rattle.tree.specs.Held.{kindByte}
+use Rattle.tree.specs.Formed.{placedIn}
 use Rattle.tree.proofs.formed.placed.Statement.{statement}
 use Rattle.tree.proofs.formed.placed.Tie as tie
 
 returns : tie.Need-returns
-unfolding placed
+unfolding placedIn
 returns c = simp (eq-eqb (c .before .before .args .i) 0 (c .if1 .taken))
 
 own-requires : tie.Need-own-requires
@@ -22,14 +22,14 @@ byte-in-requires : tie.Need-byte-in-requires
 byte-in-requires c κs = search needs
 
 returns-2 : tie.Need-returns-2
-unfolding placed
+unfolding placedIn
 returns-2 c =
     let a = c .before .before .before .before .before .args in
     simp (ne-eqb (a .i) 0 (c .before .before .before .if1 .left), lt-ltb (a .p) (a .i) (c .before .before .if2 .taken))
-    (ap (λ (n : ℕ). eqb n 1) (c .byte-in .ensures ∙ ap (λ (b : List ℕ). kindOf b) (c .before .own .ensures)))
+    (ap (λ (n : ℕ). eqb n 1) (c .byte-in .ensures ∙ ap (λ (b : List ℕ). kindByte b) (c .before .own .ensures)))
 
 returns-3 : tie.Need-returns-3
-unfolding placed
+unfolding placedIn
 returns-3 c =
     let a = c .before .before .before .args in
     simp (ne-eqb (a .i) 0 (c .before .if1 .left), le-ltb (a .p) (a .i) (omega arith))

@@ -6,7 +6,7 @@ use Prim.Native.Nat.{ℕ, _-_}
 use denote.Ref.{now}
 use lib.Dec.{eqb}
 use borrow.Author.Tests.{eq-eqb, ne-eqb, lt-ltb, le-ltb}
-use Rattle.tree.specs.Room.{tagOf}
+use Rattle.tree.specs.Room.{stepTag}
 use Rattle.tree.specs.Formed.{stepOk}
 use Rattle.tree.proofs.formed.step_ok.Statement.{statement}
 use Rattle.tree.proofs.formed.step_ok.Tie as tie
@@ -18,7 +18,7 @@ returns : tie.Need-returns
 unfolding stepOk
 returns c =
     let a = c .before .before .before .before .before .args in
-    simp (eq-eqb (tagOf (now (a .u))) 1 (omega arith), le-ltb 0 (a .c) (omega arith))
+    simp (eq-eqb (stepTag (now (a .u))) 1 (omega arith), le-ltb 0 (a .c) (omega arith))
 
 number-in-requires : tie.Need-number-in-requires
 number-in-requires c κs = search needs
@@ -30,13 +30,13 @@ returns-2 : tie.Need-returns-2
 unfolding stepOk
 returns-2 c =
     let a = c .before .before .before .before .before .before .args in
-    simp (eq-eqb (tagOf (now (a .u))) 1 (omega arith), lt-ltb 0 (a .c) (omega arith)) (ap (λ (n : ℕ). eqb n (a .c - 1)) (c .number-in .ensures .0))
+    simp (eq-eqb (stepTag (now (a .u))) 1 (omega arith), lt-ltb 0 (a .c) (omega arith)) (ap (λ (n : ℕ). eqb n (a .c - 1)) (c .number-in .ensures .0))
 
 returns-3 : tie.Need-returns-3
 unfolding stepOk
 returns-3 c =
     let a = c .before .before .before .before .before .args in
-    simp (ne-eqb (tagOf (now (a .u))) 1 (λ e. omega arith), ne-eqb (tagOf (now (a .u))) 2 (λ e. omega arith))
+    simp (ne-eqb (stepTag (now (a .u))) 1 (λ e. omega arith), ne-eqb (stepTag (now (a .u))) 2 (λ e. omega arith))
 
 again-ok-requires : tie.Need-again-ok-requires
 again-ok-requires c κs = search needs
@@ -45,7 +45,7 @@ returns-4 : tie.Need-returns-4
 unfolding stepOk
 returns-4 c =
     let a = c .before .before .before .before .before .before .args in
-    simp (ne-eqb (tagOf (now (a .u))) 1 (λ e. omega arith), eq-eqb (tagOf (now (a .u))) 2 (omega arith)) (c .again-ok .ensures)
+    simp (ne-eqb (stepTag (now (a .u))) 1 (λ e. omega arith), eq-eqb (stepTag (now (a .u))) 2 (omega arith)) (c .again-ok .ensures)
 
 pub step-ok-spec : {M : Type 1} → statement M
 step-ok-spec =

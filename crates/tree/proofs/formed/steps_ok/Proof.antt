@@ -6,7 +6,7 @@ use mathlib.Core.List.{List}
 use Prim.Native.Nat.{ℕ, _≤_, _-_}
 use native.Mathlib.Nat.{sub-zero}
 use denote.Ref.{now}
-use Rattle.tree.specs.Room.{own, step}
+use Rattle.tree.specs.Room.{ownData, step}
 use Rattle.tree.specs.Formed.{stepOk, standing, stepsOk}
 use Rattle.tree.proofs.Tested.{refused, passed, steps-no, steps-more, steps-all, standing-most}
 use Rattle.tree.proofs.formed.steps_ok.Statement.{statement}
@@ -14,7 +14,7 @@ use Rattle.tree.proofs.formed.steps_ok.Tie as tie
 
 abbrev Inv-loop : tie.InvT-loop
 Inv-loop r n m c j₀ stand₀ j stand =
-    (j ≤ m) × ((stand ≤ c) × (stepsOk (λ i. own i r) (λ i. step n i r) m 0 c ≡ stepsOk (λ i. own i r) (λ i. step n i r) (m - j) j stand))
+    (j ≤ m) × ((stand ≤ c) × (stepsOk (λ i. ownData i r) (λ i. step n i r) m 0 c ≡ stepsOk (λ i. ownData i r) (λ i. step n i r) (m - j) j stand))
 
 abbrev μ-loop : tie.MeasureT-loop
 μ-loop r n m c j₀ stand₀ j stand = m - j
@@ -26,10 +26,10 @@ looked-at l =
     step (a .n) (l .loop .j) (now (a .r))
 
 step-here : (c : tie.After-step-ok Inv-loop μ-loop)
-    → let l = c .before .before .before in c .step-ok .result ≡ stepOk (λ i. own i (now (l .before .before .args .r))) (l .loop .stand) (looked-at l)
+    → let l = c .before .before .before in c .step-ok .result ≡ stepOk (λ i. ownData i (now (l .before .before .args .r))) (l .loop .stand) (looked-at l)
 step-here c =
     let l = c .before .before .before in
-    c .step-ok .ensures ∙ ap (stepOk (λ i. own i (now (l .before .before .args .r))) (l .loop .stand)) (c .before .step .ensures)
+    c .step-ok .ensures ∙ ap (stepOk (λ i. ownData i (now (l .before .before .args .r))) (l .loop .stand)) (c .before .step .ensures)
 
 stand-here : (c : tie.After-standing Inv-loop μ-loop)
     → let l = c .before .before .before .before .before in c .standing .result ≡ standing (l .loop .stand) (looked-at l)

@@ -5,7 +5,7 @@ use mathlib.Core.Path.{ap₂, _∙_}
 use denote.Ref.{now}
 use borrow.Author.Tests.{eq-eqb, ne-eqb}
 use Rattle.list.specs.Bytes.{sameBytes}
-use Rattle.tree.specs.Held.{parentOf, kindOf, alike}
+use Rattle.tree.specs.Held.{parentByteIn, kindByte, alike}
 use Rattle.tree.proofs.held.alike.Statement.{statement}
 use Rattle.tree.proofs.held.alike.Tie as tie
 
@@ -21,7 +21,7 @@ returns c =
     let both = c .before .before .before .before .before .args in
     let a = now (both .a) in
     let b = now (both .b) in
-    simp (ne-eqb (parentOf a) (parentOf b) (λ e. omega arith))
+    simp (ne-eqb (parentByteIn a) (parentByteIn b) (λ e. omega arith))
 
 byte-in-requires-3 : tie.Need-byte-in-requires-3
 byte-in-requires-3 c κs = search needs
@@ -35,7 +35,7 @@ returns-2 c =
     let both = c .before .before .before .before .before .before .before .before .args in
     let a = now (both .a) in
     let b = now (both .b) in
-    simp (eq-eqb (parentOf a) (parentOf b) (omega arith), ne-eqb (kindOf a) (kindOf b) (λ e. omega arith))
+    simp (eq-eqb (parentByteIn a) (parentByteIn b) (omega arith), ne-eqb (kindByte a) (kindByte b) (λ e. omega arith))
 
 guid-at-requires : tie.Need-guid-at-requires
 guid-at-requires c κs = search needs
@@ -52,7 +52,7 @@ returns-3 c =
     let both = c .before .before .before .before .before .before .before .before .before .before .before .args in
     let a = now (both .a) in
     let b = now (both .b) in
-    simp (eq-eqb (parentOf a) (parentOf b) (omega arith), eq-eqb (kindOf a) (kindOf b) (omega arith))
+    simp (eq-eqb (parentByteIn a) (parentByteIn b) (omega arith), eq-eqb (kindByte a) (kindByte b) (omega arith))
     (c .same-guid .ensures ∙ ap₂ sameBytes (c .before .before .guid-at .ensures) (c .before .guid-at2 .ensures))
 
 pub alike-spec : {M : Type 1} → statement M

@@ -6,7 +6,7 @@ use mathlib.Core.Bool.{true}
 use denote.Ref.{now}
 use borrow.Author.Tests.{le-leb, lt-leb}
 use Rattle.list.specs.Bytes.{part}
-use Rattle.tree.specs.Held.{slotOk, idOk, kindOf, markOf, blockOk}
+use Rattle.tree.specs.Held.{slotOk, idOk, kindByte, markByte, blockOk}
 use Rattle.tree.proofs.Tested.{refused, passed}
 use Rattle.tree.proofs.held.block_ok.Statement.{statement}
 use Rattle.tree.proofs.held.block_ok.Tie as tie
@@ -32,7 +32,7 @@ returns : tie.Need-returns
 unfolding blockOk
 returns c =
     let b = now (c .before .before .before .args .b) in
-    simp (lt-leb (kindOf b) 1 (omega arith))
+    simp (lt-leb (kindByte b) 1 (omega arith))
 
 byte-in-requires-2 : tie.Need-byte-in-requires-2
 byte-in-requires-2 c κs = search needs
@@ -41,7 +41,7 @@ returns-2 : tie.Need-returns-2
 unfolding blockOk
 returns-2 c =
     let b = now (c .before .before .before .before .before .args .b) in
-    simp (le-leb (kindOf b) 1 (omega arith), lt-leb (markOf b) 1 (omega arith))
+    simp (le-leb (kindByte b) 1 (omega arith), lt-leb (markByte b) 1 (omega arith))
 
 part-of-requires : tie.Need-part-of-requires
 part-of-requires c κs = search needs
@@ -53,7 +53,7 @@ returns-3 : tie.Need-returns-3
 unfolding blockOk
 returns-3 c =
     let b = now (c .before .before .before .before .before .before .before .before .args .b) in
-    simp (le-leb (kindOf b) 1 (omega arith), le-leb (markOf b) 1 (omega arith), refused (owner-here (c .before)) (c .if3 .taken))
+    simp (le-leb (kindByte b) 1 (omega arith), le-leb (markByte b) 1 (omega arith), refused (owner-here (c .before)) (c .if3 .taken))
 
 part-of-requires-2 : tie.Need-part-of-requires-2
 part-of-requires-2 c κs = search needs
@@ -66,8 +66,8 @@ unfolding blockOk
 returns-4 c =
     let b = now (c .before .before .before .before .before .before .before .before .before .before .before .args .b) in
     simp (
-      le-leb (kindOf b) 1 (omega arith),
-      le-leb (markOf b) 1 (omega arith),
+      le-leb (kindByte b) 1 (omega arith),
+      le-leb (markByte b) 1 (omega arith),
       owner-yes (c .before .before .before),
       refused (group-here (c .before)) (c .if4 .taken),
     )
@@ -84,7 +84,7 @@ returns-5 c =
     let g = c .before .before in
     let o = g .before .before .before in
     let b = now (o .before .before .before .before .before .before .before .before .args .b) in
-    simp (le-leb (kindOf b) 1 (omega arith), le-leb (markOf b) 1 (omega arith), owner-yes o, group-yes g)
+    simp (le-leb (kindByte b) 1 (omega arith), le-leb (markByte b) 1 (omega arith), owner-yes o, group-yes g)
     (c .slot-ok .ensures ∙ ap slotOk (c .before .part-of3 .ensures))
 
 pub block-ok-spec : {M : Type 1} → statement M

@@ -4,7 +4,7 @@ use native.Mathlib.Omega.{arith}
 use mathlib.Core.Path.{sym, ap, _∙_}
 use denote.Ref.{now}
 use lib.ListN.{length}
-use Rattle.tree.specs.Calls.{told}
+use Rattle.tree.specs.Calls.{toldAs}
 use Rattle.tree.proofs.Tested.{bytes-most}
 use Rattle.tree.proofs.held.told.Statement.{statement}
 use Rattle.tree.proofs.held.told.Tie as tie
@@ -22,11 +22,11 @@ half-in-requires : tie.Need-half-in-requires
 half-in-requires c κs = search needs
 
 returns : tie.Need-returns
-unfolding told
+unfolding toldAs
 returns c = simp (sym (c .before .before .before .has-list .ensures) ∙ c .before .before .if1 .taken) (cc)
 
 returns-2 : tie.Need-returns-2
-unfolding told
+unfolding toldAs
 returns-2 c = simp (sym (c .before .has-list .ensures) ∙ c .if1 .left)
 
 pub told-spec : {M : Type 1} → statement M

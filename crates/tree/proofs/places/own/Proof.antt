@@ -1,6 +1,6 @@
 -- A part of the room. Assumes nothing.
 use borrow.Author.Needs.{needs}
-use Rattle.tree.specs.Room.{own}
+use Rattle.tree.specs.Room.{ownData}
 use Rattle.tree.proofs.places.own.Statement.{statement}
 use Rattle.tree.proofs.places.own.Tie as tie
 
@@ -14,7 +14,7 @@ part-of-requires : tie.Need-part-of-requires
 part-of-requires c κs = search needs
 
 returns : tie.Need-returns
-unfolding own
+unfolding ownData
 returns c = c .part-of .ensures
 
 pub own-spec : {M : Type 1} → statement M

@@ -6,8 +6,8 @@ use mathlib.Core.Bool.{Bool, true}
 use Prim.Native.Nat.{ℕ}
 use denote.Ref.{now}
 use borrow.Author.Tests.{lt-ltb, le-ltb}
-use Rattle.tree.specs.Room.{limit, objects, own}
-use Rattle.tree.specs.Formed.{placed, formed}
+use Rattle.tree.specs.Room.{objectLimit, objects, ownData}
+use Rattle.tree.specs.Formed.{placedIn, formed}
 use Rattle.tree.specs.Calls.{nobody}
 use Rattle.tree.specs.Faults.{addFault}
 use Rattle.tree.proofs.Tested.{refused, passed}
@@ -19,7 +19,7 @@ formed-yes c = passed (c .before .formed .ensures) (c .if1 .left)
 
 -- the parent that is asked for has a place among so many objects
 abbrev placed-by : tie.Start → ℕ → Bool
-placed-by s n = placed nobody (λ j. own j (now (s .args .r))) n (s .args .parent)
+placed-by s n = placedIn nobody (λ j. ownData j (now (s .args .r))) n (s .args .parent)
 
 placed-here : (c : tie.After-placed)
     → let s = c .before .before .before .before .before in c .placed .result ≡ placed-by s (objects (now (s .args .r)))
@@ -50,14 +50,14 @@ unfolding addFault
 returns-3 c =
     let p = c .before .before in
     let r = now (p .before .before .before .before .before .before .args .r) in
-    simp (formed-yes (p .before .before .before), passed (placed-here (p .before)) (p .if2 .left), lt-ltb (objects r) (limit r) (omega arith))
+    simp (formed-yes (p .before .before .before), passed (placed-here (p .before)) (p .if2 .left), lt-ltb (objects r) (objectLimit r) (omega arith))
 
 returns-4 : tie.Need-returns-4
 unfolding addFault
 returns-4 c =
     let p = c .before .before in
     let r = now (p .before .before .before .before .before .before .args .r) in
-    simp (formed-yes (p .before .before .before), passed (placed-here (p .before)) (p .if2 .left), le-ltb (objects r) (limit r) (omega arith))
+    simp (formed-yes (p .before .before .before), passed (placed-here (p .before)) (p .if2 .left), le-ltb (objects r) (objectLimit r) (omega arith))
 
 pub add-fault-spec : {M : Type 1} → statement M
 add-fault-spec =

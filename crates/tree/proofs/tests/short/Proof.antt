@@ -1,14 +1,14 @@
 -- By whether a list is given. Assumes nothing.
-use Rattle.tree.specs.Calls.{short}
+use Rattle.tree.specs.Model.{shortIf}
 use Rattle.tree.proofs.tests.short.Statement.{statement}
 use Rattle.tree.proofs.tests.short.Tie as tie
 
 returns : tie.Need-returns
-unfolding short
+unfolding shortIf
 returns c = rw (c .if1 .taken)
 
 returns-2 : tie.Need-returns-2
-unfolding short
+unfolding shortIf
 returns-2 c = rw (c .if1 .left)
 
 pub short-spec : {M : Type 1} → statement M

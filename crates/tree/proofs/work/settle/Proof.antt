@@ -3,7 +3,7 @@ use borrow.Author.Needs.{needs}
 use native.Mathlib.Omega.{arith}
 use lib.ListN.{length-set}
 use mathlib.Core.Path.{_∙_}
-use Rattle.tree.specs.Calls.{settled}
+use Rattle.tree.specs.Calls.{reworkedWith}
 use Rattle.tree.proofs.work.settle.Statement.{statement}
 use Rattle.tree.proofs.work.settle.Tie as tie
 
@@ -28,7 +28,7 @@ same-length-2 : tie.Need-same-length-2
 same-length-2 c = search needs
 
 returns : tie.Need-returns
-unfolding settled
+unfolding reworkedWith
 returns c =
     let all = c .before .before .before .before in
     rw (← all .before .before .before .before .before .lay .ensures) (all .rework-all .ensures)
