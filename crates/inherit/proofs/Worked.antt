@@ -12,7 +12,7 @@ use Rattle.list.specs.Entry.{plainOf, objectOf, objectKind, kindOk, flagsOk, he
 use Rattle.list.specs.List.{revOk, headerOk, cut, entriesOf, headBytes, render, onGood, walkOf, finish, checkOf}
 use Rattle.list.specs.Answer.{Values, done, refused}
 use Rattle.inherit.specs.declared.Mapping.{Mapping}
-use Rattle.inherit.specs.Asked.{Asked, MaybeList, entriesIf, typesOk, typesOf}
+use Rattle.inherit.specs.Asked.{Asked, MaybeList, lent, entriesIf, typesOk, typesOf}
 use Rattle.inherit.specs.Copies.{anyHeritable, among, typeApplies, pass, keptFlags, takesFirst, firstPart, takesSecond, secondPart, fromParent, ownEntries, fromCreator}
 use Rattle.inherit.specs.Last.{inPlace, mapped, resolved, lastOf, lastStep}
 use Rattle.inherit.specs.Branch.{inheritedBit, withCreator, fromDefault, branch, resultOf}
@@ -145,3 +145,7 @@ pub masks-worked :
     × (mapped mapping 0xF0000001 ≡ 0xF01201BF))))
 unfolding mapped
 masks-worked = (refl, (refl, (refl, (refl, refl))))
+
+-- a list that is given is that list, an empty one too; else there is none
+pub lent-worked : (s : List ℕ) → (lent true s ≡ some s) × (lent false s ≡ none)
+lent-worked s = (refl, refl)

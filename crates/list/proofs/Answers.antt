@@ -8,9 +8,9 @@ use native.Mathlib.Omega.{arith}
 use lib.ListN.{length, drop}
 use lib.Dec.{eqb, leb}
 use Rattle.list.specs.Order.{need}
-use Rattle.list.specs.Entry.{Family, entryOf, sizeOf}
+use Rattle.list.specs.Entry.{Family, access, entryOf, sizeOf}
 use Rattle.list.specs.List.{headerOk, onGood, walkOf, finish, checkOf, withRow, readOf, revOf, countOf}
-use Rattle.list.specs.Answer.{Values, entryNumber, readingValues}
+use Rattle.list.specs.Answer.{Values, entryNumber, readingValues, checkValues}
 use Rattle.list.specs.Good.{Sound}
 use Rattle.list.specs.declared.entries.Entry.{Entry}
 use Rattle.list.specs.declared.entries.Checked.{Checked}
@@ -31,6 +31,10 @@ values-same (Refused k at) (Refused j to) e =
     let a = ap (λ (v : Values). v .number) e in
     let b = ap (λ (v : Values). v .offset) e in
     cc
+
+-- so what the test of a list gives is the definition's
+pub checked : (r : Reading) (s : List ℕ) → readingValues r ≡ checkValues s → r ≡ checkOf access s
+checked r s e = values-same r (checkOf access s) e
 
 -- an entry is refused by 2 to 5
 pub data EntryNumber : Checked → Type 0 where

@@ -5,6 +5,10 @@ use Rattle.list.proofs.Determinacy.{Determines, OneResult}
 use Rattle.list.proofs.Answers.{values-same}
 use Rattle.list.proofs.identities.Sid.from_bytes.Kinds as from-bytes
 use Rattle.list.proofs.identities.Sid.from_bytes.Reads as from-bytes-reads
+use Rattle.list.proofs.identities.Sid.creator_owner.Kinds as creator-owner
+use Rattle.list.proofs.identities.Sid.creator_owner.Reads as creator-owner-reads
+use Rattle.list.proofs.identities.Sid.creator_group.Kinds as creator-group
+use Rattle.list.proofs.identities.Sid.creator_group.Reads as creator-group-reads
 use Rattle.list.proofs.identities.Sid.placeholder.Kinds as placeholder
 use Rattle.list.proofs.identities.Sid.placeholder.Reads as placeholder-reads
 use Rattle.list.proofs.identities.placeholder_of.Kinds as placeholder-of
@@ -36,6 +40,12 @@ use Rattle.list.proofs.lists.read.Reads as read-reads
 
 pub from-bytes-determined : OneResult 1 from-bytes.ps from-bytes.r from-bytes-reads.Learnt
 from-bytes-determined κs a x y s t p q = p ∙ sym q
+
+pub creator-owner-determined : OneResult 0 creator-owner.ps creator-owner.r creator-owner-reads.Learnt
+creator-owner-determined κs a x y s t p q = p ∙ sym q
+
+pub creator-group-determined : OneResult 0 creator-group.ps creator-group.r creator-group-reads.Learnt
+creator-group-determined κs a x y s t p q = p ∙ sym q
 
 pub placeholder-determined : OneResult 0 placeholder.ps placeholder.r placeholder-reads.Learnt
 placeholder-determined κs a x y s t p q = p ∙ sym q
@@ -76,7 +86,7 @@ pub entry-of-determined : OneResult 1 entry-of.ps entry-of.r entry-of-reads.Lear
 entry-of-determined κs a x y s t p q = p ∙ sym q
 
 pub check-determined : OneResult 1 check.ps check.r check-reads.Learnt
-check-determined κs a x y s t p q = p ∙ sym q
+check-determined κs a x y s t p q = values-same x y (p ∙ sym q)
 
 -- the reader's answer, and the row afterwards
 pub read-determined : Determines 2 read.ps read.r (λ κs x y s t. (x ≡ y) × (now (s .1 .0) ≡ now (t .1 .0))) read-reads.Learnt

@@ -2,7 +2,7 @@
 use Prim.Native.Nat.{ℕ}
 use mathlib.Core.List.{List}
 use Rattle.list.specs.Entry.{access}
-use Rattle.list.specs.List.{readOf}
+use Rattle.list.specs.List.{checkOf, readOf}
 use Rattle.list.specs.declared.entries.Checked.{Checked}
 use Rattle.list.specs.declared.entries.Checked.the-variants.{Good, Bad}
 use Rattle.list.specs.declared.lists.Reading.{Reading}
@@ -38,6 +38,10 @@ abbrev pub readingValues : Reading → Values
 readingValues (Done len n) = done len 1 n 0
 readingValues (Refused k at) = refused k 0 at
 
--- what the reader answers for the access list s and a row of m elements
+-- what the test of the access list s answers
+abbrev pub checkValues : List ℕ → Values
+checkValues s = readingValues (checkOf access s)
+
+-- and the reader, with a row of m elements
 abbrev pub readValues : List ℕ → ℕ → Values
 readValues s m = readingValues (readOf access s m)

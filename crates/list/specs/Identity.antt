@@ -36,6 +36,10 @@ padded s = front s (replicate 68 0)
 abbrev pub bytesOf : Sid → List ℕ
 bytesOf i = take (i .len) (i .bytes)
 
+-- a placeholder as an identity
+abbrev pub placeholderSid : ℕ → Sid
+placeholderSid k = record { bytes = padded (creator k); len = 12 }
+
 -- an identity is made of exactly one SID; of other bytes it is refused, with nothing in it
 unfoldable pub madeOf : List ℕ → Made
 madeOf s =

@@ -3,7 +3,7 @@ ghost use mathlib.Core.Path.{_≡_};
 ghost use Prim.Native.Nat.{_+_, _≤_};
 ghost use lib.ListN.{length, take, drop};
 ghost use Rattle.list.specs.Bytes.{sameBytes, guidAt};
-ghost use Rattle.list.specs.Identity.{sidLen, isSid, placeholderOf, identityOf, bytesOf, madeOf};
+ghost use Rattle.list.specs.Identity.{sidLen, isSid, placeholderOf, identityOf, bytesOf, madeOf, placeholderSid};
 use crate::numbers::put;
 use crate::numbers::word_at;
 
@@ -169,6 +169,19 @@ impl Sid {
         ],
         len: 12,
     };
+
+    // The constants by their bytes, all 68 of them, and their length.
+    pub fn creator_owner() -> Sid
+        ensures { λ r. ⌜ r ≡ placeholderSid 0 ⌝ }
+    {
+        Sid::CREATOR_OWNER
+    }
+
+    pub fn creator_group() -> Sid
+        ensures { λ r. ⌜ r ≡ placeholderSid 1 ⌝ }
+    {
+        Sid::CREATOR_GROUP
+    }
 
     // Made of bytes that are exactly one SID.
     pub fn from_bytes(b: &[u8]) -> Made

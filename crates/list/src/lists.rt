@@ -5,7 +5,7 @@ ghost use Prim.Native.Nat.{_+_, _≤_, _<_};
 ghost use lib.ListN.{length, drop};
 ghost use Rattle.list.specs.Entry.{access, entryOf};
 ghost use Rattle.list.specs.List.{revOk, headerOk, offsets, walkOf, finish, checkOf, readOf, rowBy};
-ghost use Rattle.list.specs.Answer.{readingValues, readValues};
+ghost use Rattle.list.specs.Answer.{readingValues, checkValues, readValues};
 ghost use Rattle.list.specs.Good.{Listed};
 use crate::entries::Checked;
 use crate::entries::entry_of;
@@ -88,7 +88,7 @@ fn walk(list: &[u8], rev: u8, count: u16) -> Reading
 
 // A list, without its index.
 pub fn check(list: &[u8]) -> Reading
-    ensures { λ r. ⌜ r ≡ checkOf access (now (list .entry)) ⌝ }
+    ensures { λ r. ⌜ readingValues r ≡ checkValues (now (list .entry)) ⌝ }
 {
     if !header_ok(list) {
         return Reading::Refused { number: 1, at: 0 };

@@ -26,7 +26,8 @@ use Rattle.tree.specs.General.{isSome, rest, bind, tab}
 use Rattle.tree.specs.Held.{New, held, isDone, slotOk, blockFor, kindByte}
 use Rattle.tree.specs.Room.{objectLimit, stepLimit, objects, keptSteps, roomFor, settings, ruleOf, defaultOf, defaultSlot, ownAt, ownData, slot, area}
 use Rattle.tree.specs.Formed.{Head, settingsOk, placedIn, formed}
-use Rattle.tree.specs.Calls.{Outcome, refuse, Edit, list, mark, owners, onReadingTo, readableTo, toldAs, onObject, editAt, editBytes, tested, changed, changeEnds, nobody, addTo, alterTo, undoTo, startOk, startTo, answerValues, listBytes, copied, dataOf, listTo, ownTo, dataTo, countsTo, ChangeGiven, add, alter}
+use Rattle.tree.specs.Calls.{Outcome, refuse, Edit, list, mark, owners, onReadingTo, readableTo, toldAs, onObject, editAt, editBytes, tested, changed, changeEnds, nobody}
+use Rattle.tree.specs.Calls.{addTo, alterTo, undoTo, startOk, startTo, answerValues, listBytes, copied, dataOf, listTo, ownTo, dataTo, countsTo, ChangeGiven, add, alter}
 use Rattle.tree.proofs.History.{Call, edit, undo, Past, settled, edited, after, remains, next, noted, unnoted, accepts, afresh}
 use Rattle.tree.proofs.Replay.{Blocks, Undo, reads, fine, when, change, keep, work, rules, shown, Tree}
 use Rattle.tree.proofs.Played.{callTo, accepted, played}

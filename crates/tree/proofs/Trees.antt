@@ -17,7 +17,8 @@ use Rattle.tree.specs.Held.{New}
 use Rattle.tree.specs.Room.{roomFor}
 use Rattle.tree.specs.Calls.{list as Edit·list, mark as Edit·mark, add as Change·add, alter}
 use Rattle.tree.proofs.Played.{accepted}
-use Rattle.tree.specs.Model.{Settings, Object, object, fitting, listFrom, listOf, listed, Change, add, setList, setMark, setOwners, apply, objectsAfter, placed, shortIf, told, outcome, changeAnswer, limitsOk, startAnswer, Part, computed-list, own-list, other-data, bytesIf, parentByte, dataBytes, partBytes, partTold, readAnswer, readInto, Call, start, change, undo, read, counts, Tree, begun, objectsOf, undoAnswer, answer, takenOff, next, after}
+use Rattle.tree.specs.Model.{Settings, Object, object, fitting, listFrom, listOf, listed, Change, add, setList, setMark, setOwners, apply, objectsAfter, placed, shortIf, told, outcome, changeAnswer, limitsOk, startAnswer, Part, computed-list}
+use Rattle.tree.specs.Model.{own-list, other-data, bytesIf, parentByte, dataBytes, partBytes, partTold, readAnswer, readInto, Call, start, change, undo, read, counts, Tree, begun, objectsOf, undoAnswer, answer, takenOff, next, after}
 use Rattle.tree.specs.Shown as Shown
 use Rattle.tree.specs.Shown.{Begin, settingsFrom, startWith, meant, alteration, changeMeant, answerTo, playedOn}
 use Rattle.tree.proofs.Modelled.{said}

@@ -26,12 +26,12 @@ use Rattle.inherit.proofs.Theorems.{present-fits}
 use Rattle.tree.specs.General.{bind, isSome, orElse}
 use Rattle.tree.specs.Held.{hasList, bytesIn, held, slotFor, kindByte, markByte, typeOf, ownerOf, groupOf, ownSlot, ownList, parentByteIn}
 use Rattle.tree.specs.Room.{slotAt, settings, ruleOf, defaultSlot, defaultOf, mappingOf, ownData, slot}
-use Rattle.tree.specs.Work.{askedIn, computed, aboveIn, laid, rework, reworked}
+use Rattle.tree.specs.Work.{askedIn, settingsAsked, computed, aboveIn, laid, rework, reworked}
 
 -- the settings as the code finds them in slots and own data
 pub settings-found : (e p b : List ℕ) (x y z k m : Bool) → x ≡ hasList p → y ≡ hasList (ownSlot b) → z ≡ hasList (defaultSlot e) → k ≡ eqb (kindByte b) 1
     → m ≡ eqb (markByte b) 1
-    → _≡_ {A = Settings} (record { parent = x; creator = y; default = z; container = k; auto = true; defaulted = false; protect = m }) (record { parent = given (held p); creator = given (ownList b); default = given (defaultOf e); container = eqb (kindByte b) 1; auto = true; defaulted = false; protect = eqb (markByte b) 1 })
+    → _≡_ {A = Settings} (record { parent = x; creator = y; default = z; container = k; auto = true; defaulted = false; protect = m }) (settingsAsked (askedIn e (held p) b))
 settings-found e p b x y z k m ex ey ez ek em =
     rw (
       ex,
@@ -57,16 +57,7 @@ lent-held false s = refl
 
 module _ (e p b : List ℕ) where
   abbrev set : Settings
-  set =
-      record {
-        parent = given (held p);
-        creator = given (ownList b);
-        default = given (defaultOf e);
-        container = eqb (kindByte b) 1;
-        auto = true;
-        defaulted = false;
-        protect = eqb (markByte b) 1;
-      }
+  set = settingsAsked (askedIn e (held p) b)
 
   asked-held : askedBy (ruleOf e) set (mappingOf e) (bytesIn p) (bytesIn (ownSlot b)) (bytesIn (defaultSlot e)) (typeOf b) (ownerOf b) (groupOf b)
       ≡ askedIn e (held p) b

@@ -1,16 +1,14 @@
 // Works the computed lists out again, parents first.
 ghost use mathlib.Core.Path.{_≡_};
-ghost use mathlib.Core.Bool.{true, false};
+ghost use mathlib.Core.Bool.{true};
 ghost use mathlib.Core.Option.{some};
 ghost use Prim.Native.Nat.{_+_, _≤_, _<_};
 ghost use lib.ListN.{length};
-ghost use lib.Dec.{eqb};
-ghost use Rattle.inherit.specs.Asked.{given};
 ghost use Rattle.inherit.specs.Compute.{Answers};
 ghost use Rattle.tree.specs.General.{isSome, orElse};
-ghost use Rattle.tree.specs.Held.{held, kindByte, markByte, ownList};
-ghost use Rattle.tree.specs.Room.{ownAt, slotAt, mappingOf, defaultOf};
-ghost use Rattle.tree.specs.Work.{askedIn, aboveIn as Work·above, rework, reworked};
+ghost use Rattle.tree.specs.Held.{held};
+ghost use Rattle.tree.specs.Room.{ownAt, slotAt, mappingOf};
+ghost use Rattle.tree.specs.Work.{askedIn, settingsAsked, aboveIn as Work·above, rework, reworked};
 ghost use Rattle.tree.specs.Calls.{reworkedWith};
 use crate::held::bytes_in;
 use crate::held::has_list;
@@ -43,7 +41,7 @@ fn mapping_in(e: &[u8]) -> Mapping
 
 // The settings of an object's computation: its parent's slot p, its own data b.
 fn settings_in(e: &[u8], p: &[u8], b: &[u8]) -> Settings
-    ensures { λ s. ⌜ s ≡ record { parent = given (held (now (p .entry))); creator = given (ownList (now (b .entry))); default = given (defaultOf (now (e .entry))); container = eqb (kindByte (now (b .entry))) 1; auto = true; defaulted = false; protect = eqb (markByte (now (b .entry))) 1 } ⌝ }
+    ensures { λ s. ⌜ s ≡ settingsAsked (askedIn (now (e .entry)) (held (now (p .entry))) (now (b .entry))) ⌝ }
 {
     Settings {
         parent: has_list(p),

@@ -10,6 +10,7 @@ use lib.ListN.{length, drop}
 use lib.Seq.{getD-drop}
 use Rattle.list.specs.Entry.{access}
 use Rattle.list.specs.List.{headerOk, revOf, walkOf, finish}
+use Rattle.list.specs.Answer.{readingValues}
 use Rattle.list.specs.Good.{Header}
 use Rattle.list.proofs.Little.{le-lt}
 use Rattle.list.proofs.Walks.{header}
@@ -27,7 +28,7 @@ header-ok-requires : tie.Need-header-ok-requires
 header-ok-requires c κs = search needs
 
 returns : tie.Need-returns
-returns c = sym (check-header access _ (sym (c .before .header-ok .ensures) ∙ not-true _ (c .if1 .taken)))
+returns c = ap readingValues (sym (check-header access _ (sym (c .before .header-ok .ensures) ∙ not-true _ (c .if1 .taken))))
 
 shared-slice-read-walk : tie.Need-shared-slice-read-walk
 shared-slice-read-walk c = omega (arith, head-is (c .before))
@@ -43,9 +44,10 @@ walk-requires c κs =
 returns-2 : tie.Need-returns-2
 returns-2 c =
     let s = now (c .before .before .before .before .before .before .args .list) in
-    c .walk .ensures
+    ap readingValues
+    (c .walk .ensures
     ∙ ap (λ (n : ℕ). walkOf access (revOf s) n 8 (drop 8 s) (finish (length s) n)) (c .before .half-at .ensures)
-    ∙ sym (check-walk access s (head-yes (c .before .before .before)))
+    ∙ sym (check-walk access s (head-yes (c .before .before .before))))
 
 pub check-spec : {M : Type 1} → statement M
 check-spec =

@@ -7,6 +7,7 @@ use Rattle.list.specs.Entry.{access}
 use Rattle.list.specs.List.{checkOf}
 use Rattle.list.specs.Answer.{readingValues}
 use Rattle.list.specs.declared.lists.Reading.the-variants.{Done, Refused}
+use Rattle.list.proofs.Answers.{checked}
 use Rattle.list.proofs.Told.{told, read-refused, read-short, read-done}
 use Rattle.list.proofs.lists.read.Statement.{statement}
 use Rattle.list.proofs.lists.read.Tie as tie
@@ -14,11 +15,11 @@ use Rattle.list.proofs.lists.read.Tie as tie
 -- what `check` found
 done-here : (c : tie.After-length)
     → checkOf access (now (c .before .before .before .before .before .args .list)) ≡ Done (c .length .given .0 .0) (c .length .given .0 .1 .0)
-done-here c = sym (c .before .before .check .ensures) ∙ c .length .given .1
+done-here c = sym (checked _ _ (c .before .before .check .ensures)) ∙ c .length .given .1
 
 bad-here : (c : tie.After-number)
     → checkOf access (now (c .before .before .before .before .before .args .list)) ≡ Refused (c .number .given .0 .0) (c .number .given .0 .1 .0)
-bad-here c = sym (c .before .before .check .ensures) ∙ c .number .given .1
+bad-here c = sym (checked _ _ (c .before .before .check .ensures)) ∙ c .number .given .1
 
 check-requires : tie.Need-check-requires
 check-requires c κs = search needs

@@ -8,6 +8,7 @@ use borrow.Author.Tests.{eq-eqb, ne-eqb, le-leb, lt-leb}
 use Rattle.list.specs.Bytes.{le}
 use Rattle.list.specs.Entry.{access}
 use Rattle.list.specs.List.{checkOf}
+use Rattle.list.proofs.Answers.{checked}
 use Rattle.tree.specs.Held.{isDone, slotOk}
 use Rattle.tree.proofs.held.slot_ok.Statement.{statement}
 use Rattle.tree.proofs.held.slot_ok.Tie as tie
@@ -50,7 +51,7 @@ unfolding slotOk
 returns-4 c =
     let s = now (c .before .before .before .before .before .before .before .before .before .args .s) in
     simp (eq-eqb (getD s 0 0) 1 (omega arith), le-leb (le 2 (drop 1 s)) 1024 (omega arith), ne-eqb (getD s 0 0) 0 (λ e. omega arith))
-    (c .is-done .ensures ∙ ap isDone (c .before .check .ensures ∙ ap (checkOf access) (c .before .before .bytes-in .ensures)))
+    (c .is-done .ensures ∙ ap isDone (checked (c .before .check .result) _ (c .before .check .ensures) ∙ ap (checkOf access) (c .before .before .bytes-in .ensures)))
 
 pub slot-ok-spec : {M : Type 1} → statement M
 slot-ok-spec =

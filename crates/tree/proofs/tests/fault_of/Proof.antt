@@ -1,6 +1,7 @@
 -- The reading of a list that is given, else nothing. Assumes nothing.
 use borrow.Author.Needs.{needs}
 use mathlib.Core.Path.{ap, _∙_}
+use Rattle.list.proofs.Answers.{checked}
 use Rattle.tree.specs.Faults.{faultBy, faultOf}
 use Rattle.tree.proofs.tests.fault_of.Statement.{statement}
 use Rattle.tree.proofs.tests.fault_of.Tie as tie
@@ -13,7 +14,7 @@ fault-by-requires c κs = search needs
 
 returns : tie.Need-returns
 unfolding faultOf
-returns c = rw (c .before .before .if1 .taken) (c .fault-by .ensures ∙ ap faultBy (c .before .check .ensures))
+returns c = rw (c .before .before .if1 .taken) (c .fault-by .ensures ∙ ap faultBy (checked (c .before .check .result) _ (c .before .check .ensures)))
 
 returns-2 : tie.Need-returns-2
 unfolding faultOf
