@@ -21,7 +21,7 @@ use Rattle.inherit.specs.Asked.{Given, has}
 use Rattle.inherit.specs.Copies.{among, typeApplies, takesFirst, takesSecond}
 use Rattle.inherit.specs.Last.{inPlace, resolved}
 use Rattle.inherit.specs.Compute.{anyObject}
-use Rattle.inherit.specs.Emit.{takesBy, flagsBy, copyOf, emitOf, emitAll, measureOf, both}
+use Rattle.inherit.specs.Inner.Emit.{takesBy, flagsBy, copyOf, emitOf, emitAll, measureOf, both}
 use Rattle.inherit.proofs.Flags.{odd}
 
 -- the last step over an entry with new flags is a copy with these flags

@@ -20,8 +20,8 @@ use Rattle.inherit.specs.declared.Computed.the-variants.{Present, Absent
 use Rattle.inherit.specs.Asked.{Given}
 use Rattle.inherit.specs.Last.{resolved}
 use Rattle.inherit.specs.Compute.{revFor, sizeFor, withRoom, bytesFor, written, Ends}
-use Rattle.inherit.specs.Emit.{takesBy, flagsBy, emitOf, emitAll, measureOf}
-use Rattle.inherit.specs.Plan.{gathered, resultBy}
+use Rattle.inherit.specs.Inner.Emit.{takesBy, flagsBy, emitOf, emitAll, measureOf}
+use Rattle.inherit.specs.Inner.Plan.{gathered, resultBy}
 use Rattle.inherit.proofs.Emits.{flatten-append}
 
 -- each entry is eight bytes long at the least, so their number fits where their bytes do

@@ -11,7 +11,7 @@ use borrow.Author.Tests.{leb-true, eqb-true, not-true}
 use Rattle.list.proofs.Tests.{both-true}
 use Rattle.inherit.specs.Asked.{has}
 use Rattle.inherit.specs.Copies.{keptFlags}
-use Rattle.inherit.specs.Emit.{flagsBy}
+use Rattle.inherit.specs.Inner.Emit.{flagsBy}
 use Rattle.inherit.specs.declared.copies.Pass.{Pass}
 use Rattle.inherit.specs.declared.copies.Pass.the-variants.{First, Second, Own, All}
 

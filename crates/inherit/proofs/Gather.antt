@@ -8,8 +8,8 @@ use lib.Seq.{length-take-le, take-all}
 use Rattle.list.specs.Bytes.{front}
 use Rattle.list.proofs.Writes.{length-front, front-then}
 use Rattle.inherit.specs.declared.passes.Measure.{Measure}
-use Rattle.inherit.specs.Emit.{measureOf, both}
-use Rattle.inherit.specs.Plan.{onward}
+use Rattle.inherit.specs.Inner.Emit.{measureOf, both}
+use Rattle.inherit.specs.Inner.Plan.{onward}
 use Rattle.inherit.proofs.Emits.{flatten-append, measure-append}
 
 module _ (a b c d : List (List ℕ)) where

@@ -17,7 +17,7 @@ use Rattle.inherit.specs.declared.copies.Pass.{Pass}
 use Rattle.inherit.specs.declared.passes.Measure.{Measure}
 use Rattle.inherit.specs.Asked.{Given}
 use Rattle.inherit.specs.Compute.{anyObject}
-use Rattle.inherit.specs.Emit.{emitOf, emitAll, emitted, measureOf, both}
+use Rattle.inherit.specs.Inner.Emit.{emitOf, emitAll, emitted, measureOf, both}
 use Rattle.inherit.proofs.Emits.{emit-turn, emit-none, emit-le, flatten-append, measure-append}
 use Rattle.inherit.proofs.One.{measures, emit-few}
 

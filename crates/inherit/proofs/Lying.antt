@@ -7,7 +7,7 @@ use lib.ListN.{length, take, drop}
 use Rattle.list.specs.Identity.{placeholderOf}
 use Rattle.list.specs.Entry.{sidAt, sidLenOf, sidEnd, middleOf, sidOf, tailOf, sizeOf}
 use Rattle.inherit.specs.Last.{inPlace}
-use Rattle.inherit.specs.Emit.{Lies, putIn}
+use Rattle.inherit.specs.Inner.Emit.{Lies, putIn}
 
 part : (n m k j : ℕ) (t : List ℕ) → n ≡ m → k ≡ j → take n (drop k t) ≡ take m (drop j t)
 part n m k j t p q = ap₂ (λ (x y : ℕ). take x (drop y t)) p q

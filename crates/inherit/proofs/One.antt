@@ -14,7 +14,7 @@ use Rattle.inherit.specs.declared.passes.Measure.{Measure}
 use Rattle.inherit.specs.Asked.{Given}
 use Rattle.inherit.specs.Last.{mapped}
 use Rattle.inherit.specs.Compute.{anyObject}
-use Rattle.inherit.specs.Emit.{takesBy, flagsBy, Lies, putIn, copyOf, emitOf, measureOf}
+use Rattle.inherit.specs.Inner.Emit.{takesBy, flagsBy, Lies, putIn, copyOf, emitOf, measureOf}
 use Rattle.inherit.proofs.Lying.{copy-size}
 use Rattle.inherit.proofs.Emits.{emit-yes, emit-no, copy-length}
 

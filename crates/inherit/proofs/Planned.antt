@@ -23,8 +23,8 @@ use Rattle.inherit.specs.Copies.{anyHeritable, pass, keptFlags, takesFir
 use Rattle.inherit.specs.Last.{resolved, passesFilter, lastOf, lastStep}
 use Rattle.inherit.specs.Branch.{Result, holds, inheritedBit, withCreator, fromDefault, branch, resultOf}
 use Rattle.inherit.specs.Compute.{askedBy}
-use Rattle.inherit.specs.Emit.{takesBy, flagsBy, emitOf, emitAll}
-use Rattle.inherit.specs.Plan.{parentOnly, mergedOf, ownOnly, defaultOnly, planOf, planned, resultBy}
+use Rattle.inherit.specs.Inner.Emit.{takesBy, flagsBy, emitOf, emitAll}
+use Rattle.inherit.specs.Inner.Plan.{parentOnly, mergedOf, ownOnly, defaultOnly, planOf, planned, resultBy}
 use Rattle.inherit.proofs.Flags.{has-inherited, first-has, only-not}
 
 -- the last step over entries end to end

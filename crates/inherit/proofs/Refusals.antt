@@ -9,7 +9,7 @@ use Rattle.list.specs.Answer.{refused}
 use Rattle.inherit.specs.Asked.{Asked, typesOk}
 use Rattle.inherit.specs.Branch.{resultOf}
 use Rattle.inherit.specs.Compute.{ordinary, ruleOk, withRoom, computeOf}
-use Rattle.inherit.specs.Source.{sourceOf}
+use Rattle.inherit.specs.Inner.Source.{sourceOf}
 use Rattle.inherit.proofs.Sources.{readable-good, readable-bad}
 
 module _ (a : Asked) (room : ℕ) where

@@ -19,8 +19,8 @@ use Rattle.inherit.specs.declared.copies.Pass.the-variants.{First, Secon
 use Rattle.inherit.specs.Asked.{Given}
 use Rattle.inherit.specs.Last.{inPlace, mapped}
 use Rattle.inherit.specs.Compute.{anyObject, revFor}
-use Rattle.inherit.specs.Emit.{takesBy, flagsBy, copyOf, emitOf, emitAll}
-use Rattle.inherit.specs.Plan.{planned}
+use Rattle.inherit.specs.Inner.Emit.{takesBy, flagsBy, copyOf, emitOf, emitAll}
+use Rattle.inherit.specs.Inner.Plan.{planned}
 use Rattle.inherit.proofs.Flags.{by-le}
 use Rattle.inherit.proofs.Emits.{emit-yes, emit-no}
 

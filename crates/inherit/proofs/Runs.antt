@@ -25,9 +25,9 @@ use Rattle.inherit.specs.Branch.{resultOf}
 use Rattle.inherit.specs.Asked.{Asked, Given, givenIn, entriesIf, typesOk, typesOf, fourOf}
 use Rattle.inherit.specs.Copies.{anyHeritable}
 use Rattle.inherit.specs.Compute.{ordinary, askedBy}
-use Rattle.inherit.specs.Emit.{givenBy}
-use Rattle.inherit.specs.Plan.{planOf, planned, gathered, resultBy, Good, Ready}
-use Rattle.inherit.specs.Source.{Tested}
+use Rattle.inherit.specs.Inner.Emit.{givenBy}
+use Rattle.inherit.specs.Inner.Plan.{planOf, planned, gathered, resultBy, Good, Ready}
+use Rattle.inherit.specs.Inner.Source.{Tested}
 use Rattle.inherit.proofs.Sources.{Sourced, sourced, cond-cut}
 use Rattle.inherit.proofs.Planned.{planFor, plan-is, plan-made}
 

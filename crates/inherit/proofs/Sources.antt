@@ -18,7 +18,7 @@ use Rattle.inherit.specs.declared.tests.Source.{Source}
 use Rattle.list.specs.Answer.{Values, refused}
 use Rattle.inherit.specs.Asked.{MaybeList, lent, entriesIf}
 use Rattle.inherit.specs.Compute.{onReading, readable}
-use Rattle.inherit.specs.Source.{sourceBy, sourceOf, Found}
+use Rattle.inherit.specs.Inner.Source.{sourceBy, sourceOf, Found}
 
 -- the entries of a list that was found good
 pub record Sourced (b : Bool) (s : List ℕ) (src : Source) : Type 0 where

@@ -25,8 +25,8 @@ use Rattle.inherit.specs.Copies.{anyHeritable, ownEntries}
 use Rattle.inherit.specs.Last.{lastStep}
 use Rattle.inherit.specs.Branch.{Result, absent, holds, fromDefault, branch, resultOf}
 use Rattle.inherit.specs.Compute.{anyObject, revFor, sizeFor, fits, withRoom, ordinary, ruleOk, computeOf, bytesFor}
-use Rattle.inherit.specs.Plan.{planned, resultBy}
-use Rattle.inherit.specs.Source.{sourceBy, sourceOf}
+use Rattle.inherit.specs.Inner.Plan.{planned, resultBy}
+use Rattle.inherit.specs.Inner.Source.{sourceBy, sourceOf}
 use Rattle.inherit.proofs.Sources.{wholes-of}
 use Rattle.inherit.proofs.Refusals.{bad-rule, bad-parent, bad-creator, bad-default, bad-owner, bad-group, bad-types, all-good}
 use Rattle.inherit.proofs.Planned.{planFor, plan-is}

@@ -3,6 +3,4 @@ pub mod Copies
 pub mod Last
 pub mod Branch
 pub mod Compute
-pub mod Emit
-pub mod Plan
-pub mod Source
+pub mod Inner

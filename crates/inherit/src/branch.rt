@@ -5,7 +5,7 @@ ghost use Rattle.list.specs.Entry.{access, sizeOf};
 ghost use Rattle.list.specs.List.{cut};
 ghost use Rattle.list.specs.Good.{Sound, Passes};
 ghost use Rattle.inherit.specs.Copies.{heritable, anyHeritable};
-ghost use Rattle.inherit.specs.Plan.{mergedOf, planOf};
+ghost use Rattle.inherit.specs.Inner.Plan.{mergedOf, planOf};
 use crate::Settings;
 use crate::copies::has;
 use crate::passes::either;

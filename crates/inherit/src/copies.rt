@@ -8,7 +8,7 @@ ghost use Rattle.list.specs.Bytes.{guidAt};
 ghost use Rattle.list.specs.Entry.{objectKind, fieldsOf};
 ghost use Rattle.inherit.specs.Asked.{has as Given·has};
 ghost use Rattle.inherit.specs.Copies.{among as Copies·among, takesFirst};
-ghost use Rattle.inherit.specs.Emit.{givenBy, takesBy, flagsBy};
+ghost use Rattle.inherit.specs.Inner.Emit.{givenBy, takesBy, flagsBy};
 use crate::Mapping;
 use list::Entry;
 

@@ -5,7 +5,7 @@ ghost use lib.ListN.{length};
 ghost use Rattle.list.specs.Entry.{access};
 ghost use Rattle.inherit.specs.Branch.{resultOf};
 ghost use Rattle.inherit.specs.Compute.{askedBy, Answers, Ends};
-ghost use Rattle.inherit.specs.Source.{Tested};
+ghost use Rattle.inherit.specs.Inner.Source.{Tested};
 use branch::any_heritable;
 use branch::plan_for;
 use copies::Terms;

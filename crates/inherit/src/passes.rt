@@ -7,7 +7,7 @@ ghost use lib.ListN.{length, drop};
 ghost use Rattle.list.specs.Bytes.{front};
 ghost use Rattle.list.specs.Entry.{access, fieldsOf, sizeOf, middleOf, tailOf, entryBytes};
 ghost use Rattle.list.specs.Good.{Sound, Passes};
-ghost use Rattle.inherit.specs.Emit.{givenBy, takesBy, Lies, putIn, emitOf, emitted, measureOf, both as Emit·both};
+ghost use Rattle.inherit.specs.Inner.Emit.{givenBy, takesBy, Lies, putIn, emitOf, emitted, measureOf, both as Emit·both};
 use crate::Mapping;
 use crate::copies::Pass;
 use crate::copies::Terms;

@@ -5,7 +5,7 @@ ghost use lib.ListN.{length};
 ghost use Rattle.list.specs.List.{revOf};
 ghost use Rattle.inherit.specs.Asked.{lent, typesOk, fourOf};
 ghost use Rattle.inherit.specs.Compute.{ruleOk, ordinary as Compute·ordinary};
-ghost use Rattle.inherit.specs.Source.{sourceOf};
+ghost use Rattle.inherit.specs.Inner.Source.{sourceOf};
 use list::Reading;
 
 // A list that may be absent: the number and offset of its refusal, or 0 and how its entries are read.

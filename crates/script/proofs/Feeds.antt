@@ -9,7 +9,8 @@ use lib.ListN.{length, take, drop, length-drop, drop-of-length-le}
 use lib.Seq.{drop-drop, take-all}
 use Rattle.list.specs.Bytes.{part}
 use Rattle.script.specs.Record.{recordNumber, recordAsks, recordSize, stepOf}
-use Rattle.script.specs.Fold.{Run, past, carried, lengthIf, roomIf, isBad, runOf}
+use Rattle.script.specs.Fold.{Run, past, carried, runOf}
+use Rattle.script.specs.Inner.Runs.{lengthIf, roomIf, isBad}
 use Rattle.script.proofs.Steps.{size-some, by-step}
 use Rattle.tree.specs.Shown.{callOn}
 use Rattle.script.proofs.Folds.{past-none, past-past, run-none, run-stops, run-bad, run-record}

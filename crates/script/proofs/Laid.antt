@@ -10,7 +10,8 @@ use Rattle.list.specs.Bytes.{front, putOn}
 use Rattle.list.proofs.Places.{split}
 use Rattle.list.proofs.Tests.{tests}
 use Rattle.list.proofs.Writes.{put-all}
-use Rattle.script.specs.Text.{digits, decimal, laidAt}
+use Rattle.script.specs.Text.{digits, decimal}
+use Rattle.script.specs.Inner.Laying.{laidAt}
 
 -- ---- a number in decimal
 

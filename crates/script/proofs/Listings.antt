@@ -20,7 +20,8 @@ use Rattle.list.specs.Order.{need}
 use Rattle.tree.specs.Calls.{toldAs, onObject, listBytes, copied, listTo, countsTo}
 use Rattle.tree.proofs.Tested.{head-says, formed-parts, bytes-most}
 use Rattle.tree.proofs.Tab.{length-tab, getD-tab}
-use Rattle.script.specs.Text.{decimal, objects-text, none-text, space, newline, columnsBy, columns, line, lines, heading, listing, badLine, laidAt}
+use Rattle.script.specs.Text.{decimal, objects-text, none-text, space, newline, columnsBy, columns, line, lines, heading, listing, badLine}
+use Rattle.script.specs.Inner.Laying.{laidAt}
 use Rattle.script.specs.Play.{Ending, Listed, BadAt, textOf, endingAnswer, textTo, listingTo}
 use Rattle.script.proofs.Laid.{laid-nothing, laid-all, Lays, lays, lays-then}
 

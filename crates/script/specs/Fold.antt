@@ -75,21 +75,3 @@ inPieces g (p ∷ ps) = inPieces (onPiece g p) ps
 unfoldable pub allPieces : List (List ℕ) → List ℕ
 allPieces [] = []
 allPieces (p ∷ ps) = p ++ allPieces ps
-
--- ---- how the code goes on from record to record. Only private functions' contracts cite what follows
-
--- a record's length and what it leaves, where there is a whole one; and whether it is bad
-unfoldable pub lengthIf : Found → ℕ
-lengthIf Cut = 0
-lengthIf Bad = 0
-lengthIf (Record n k) = n
-
-unfoldable pub roomIf : Found → List ℕ → List ℕ → List ℕ
-roomIf Cut t r = r
-roomIf Bad t r = r
-roomIf (Record n k) t r = carried n t r
-
-unfoldable pub isBad : Found → Bool
-isBad Cut = false
-isBad Bad = true
-isBad (Record n k) = false

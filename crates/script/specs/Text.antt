@@ -63,8 +63,3 @@ listing os = heading (length os) ++ lines (length os) os
 -- the line that ends a run
 unfoldable pub badLine : ℕ → List ℕ
 badLine n = bad-text ++ (decimal n ++ newline)
-
--- ---- how the code writes a text: d with as much of s at `at` as there is room for. Only private functions' contracts cite it
-
-unfoldable pub laidAt : ℕ → List ℕ → List ℕ → List ℕ
-laidAt at s d = take at d ++ putOn s (drop at d)

@@ -10,7 +10,8 @@ ghost use Rattle.tree.specs.Formed.{formed};
 ghost use Rattle.tree.specs.Room.{objects, slot};
 ghost use Rattle.tree.specs.Held.{held};
 ghost use Rattle.tree.specs.declared.Answer.the-variants.{Refused as Answer·Refused};
-ghost use Rattle.script.specs.Text.{decimal as Text·decimal, line, listing as Text·listing, badLine, laidAt, newline, columnsBy};
+ghost use Rattle.script.specs.Text.{decimal as Text·decimal, line, listing as Text·listing, badLine, newline, columnsBy};
+ghost use Rattle.script.specs.Inner.Laying.{laidAt};
 ghost use Rattle.script.specs.Play.{Listed as Ending·Listed, BadAt as Ending·BadAt, textTo, listingTo};
 use tree::Answer;
 

@@ -27,7 +27,7 @@ use Rattle.tree.specs.Room.{objectLimit, objects, ownData, roomFor, room
 use Rattle.tree.specs.Formed.{Head, placedIn, formed}
 use Rattle.list.specs.Order.{need}
 use Rattle.tree.specs.Calls.{Outcome, refuse, onReadingTo, readableTo, onObject, nobody, toldAs, startOk, listBytes, copied, dataOf}
-use Rattle.tree.specs.Faults.{objectFault, addFault, faultBy, faultOf}
+use Rattle.tree.specs.Inner.Faults.{objectFault, addFault, faultBy, faultOf}
 use Rattle.tree.proofs.Replay.{reads}
 use Rattle.tree.proofs.Tested.{head-says, formed-parts}
 use Rattle.tree.proofs.Lays.{Written, write-one, write-next, write-more, length-settings}

@@ -23,7 +23,7 @@ use Rattle.tree.specs.Formed.{Head, standing, formed}
 use Rattle.list.specs.Order.{need}
 use Rattle.tree.specs.Calls.{Outcome, refuse, readableTo, toldAs, popped, reworkedWith, changed, latest, stepTakenBack, changeEnds, undoEnds, Edit}
 use Rattle.tree.specs.Calls.{list, mark, owners, editAt, editBytes, tested, addTo, alterTo, undoTo}
-use Rattle.tree.specs.Faults.{objectFault, addFault, faultOf}
+use Rattle.tree.specs.Inner.Faults.{objectFault, addFault, faultOf}
 use Rattle.tree.proofs.Tested.{head-says, Forms, formed-parts, standing-most}
 use Rattle.tree.proofs.Applied.{Adds, Again, step-facts, steps-off}
 use Rattle.tree.proofs.Answered.{settle, need-yes, need-no, formed-head, readable-good, readable-bad, on-object-good, on-object-bad}

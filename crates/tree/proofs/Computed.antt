@@ -18,7 +18,7 @@ use Rattle.list.proofs.Tests.{off}
 use Rattle.list.proofs.Told.{told}
 use Rattle.list.specs.Answer.{Values, done, refused}
 use Rattle.inherit.specs.Asked.{MaybeList, lent, typesOk}
-use Rattle.inherit.specs.Source.{sourceOf}
+use Rattle.inherit.specs.Inner.Source.{sourceOf}
 use Rattle.inherit.specs.Branch.{Result, absent, holds, resultOf}
 use Rattle.inherit.specs.Compute.{ruleOk, sizeFor, fits, withRoom, computeOf, bytesFor}
 use Rattle.inherit.proofs.Theorems.{Passed, passed-room, present-fits, Computes, computes, listed-source, absent-source}

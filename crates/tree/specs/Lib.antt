@@ -5,5 +5,5 @@ pub mod Room
 pub mod Formed
 pub mod Work
 pub mod Calls
-pub mod Faults
 pub mod Shown
+pub mod Inner

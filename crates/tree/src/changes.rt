@@ -12,6 +12,12 @@ use crate::Answer;
 use crate::formed::standing;
 use crate::held::number_in;
 use crate::held::told;
+use crate::places::LONGEST_LIST;
+use crate::places::OBJECT;
+use crate::places::OBJECTS_AT;
+use crate::places::OWN_DATA;
+use crate::places::STEP;
+use crate::places::STEP_DATA_AT;
 use crate::places::slot;
 use crate::places::step;
 use crate::steps::pop;
@@ -28,7 +34,7 @@ const SMALL: usize = 55400;
 fn area_of(r: &[u8]) -> usize
     ensures { λ n. ⌜ n ≡ roomFor (objectLimit (now (r .entry))) (stepLimit (now (r .entry))) ⌝ }
 {
-    1048 + number_in(r, 0) * 2211 + number_in(r, 1) * 1186
+    OBJECTS_AT + number_in(r, 0) * OBJECT + number_in(r, 1) * STEP
 }
 
 // The room's area to w, with object i changed.
@@ -47,7 +53,7 @@ fn change_copy(
     ensures { λ ok. ⌜ (ok ≡ isSome (changed tag i at (now (b .entry)) n (area (now (r .entry))))) × ((ok ≡ true → changed tag i at (now (b .entry)) n (area (now (r .entry))) ≡ some (now (w .exit)))) ⌝ }
 {
     push(r, w, tag, i);
-    settle(w, out, 1048 + i * 2211 + at, b, n)
+    settle(w, out, OBJECTS_AT + i * OBJECT + at, b, n)
 }
 
 fn change_in(
@@ -83,8 +89,17 @@ fn change_small(r: &mut [u8], tag: u8, i: usize, at: usize, b: &[u8], n: usize) 
 {
     let end = area_of(r);
     let mut w = [0u8; SMALL];
-    let mut out = [0u8; 1024];
-    change_in(r, &mut w[0..end], &mut out[0..1024], tag, i, at, b, n)
+    let mut out = [0u8; LONGEST_LIST];
+    change_in(
+        r,
+        &mut w[0..end],
+        &mut out[0..LONGEST_LIST],
+        tag,
+        i,
+        at,
+        b,
+        n,
+    )
 }
 
 fn change_large(r: &mut [u8], tag: u8, i: usize, at: usize, b: &[u8], n: usize) -> Answer
@@ -94,8 +109,17 @@ fn change_large(r: &mut [u8], tag: u8, i: usize, at: usize, b: &[u8], n: usize) 
 {
     let end = area_of(r);
     let mut w = [0u8; LARGEST];
-    let mut out = [0u8; 1024];
-    change_in(r, &mut w[0..end], &mut out[0..1024], tag, i, at, b, n)
+    let mut out = [0u8; LONGEST_LIST];
+    change_in(
+        r,
+        &mut w[0..end],
+        &mut out[0..LONGEST_LIST],
+        tag,
+        i,
+        at,
+        b,
+        n,
+    )
 }
 
 // Puts b at a place of object i's own data, n objects standing then: a change, unless a list would pass 1,024 bytes.
@@ -120,8 +144,8 @@ fn undo_copy(r: &[u8], w: &mut [u8], out: &mut [u8]) -> bool
     settle(
         w,
         out,
-        1048 + number_in(u, 1) * 2211,
-        part_of(u, 2, 1184),
+        OBJECTS_AT + number_in(u, 1) * OBJECT,
+        part_of(u, STEP_DATA_AT, OWN_DATA),
         standing(number_in(r, 2), u),
     )
 }
@@ -154,8 +178,8 @@ fn undo_small(r: &mut [u8]) -> Answer
 {
     let end = area_of(r);
     let mut w = [0u8; SMALL];
-    let mut out = [0u8; 1024];
-    undo_in(r, &mut w[0..end], &mut out[0..1024])
+    let mut out = [0u8; LONGEST_LIST];
+    undo_in(r, &mut w[0..end], &mut out[0..LONGEST_LIST])
 }
 
 fn undo_large(r: &mut [u8]) -> Answer
@@ -165,8 +189,8 @@ fn undo_large(r: &mut [u8]) -> Answer
 {
     let end = area_of(r);
     let mut w = [0u8; LARGEST];
-    let mut out = [0u8; 1024];
-    undo_in(r, &mut w[0..end], &mut out[0..1024])
+    let mut out = [0u8; LONGEST_LIST];
+    undo_in(r, &mut w[0..end], &mut out[0..LONGEST_LIST])
 }
 
 // Takes off the latest change, unless a list would pass 1,024 bytes.

@@ -9,6 +9,13 @@ use crate::held::alike;
 use crate::held::block_ok;
 use crate::held::number_in;
 use crate::held::slot_ok;
+use crate::places::DEFAULT_AT;
+use crate::places::OBJECT;
+use crate::places::OBJECTS_AT;
+use crate::places::OWN_DATA;
+use crate::places::SLOT;
+use crate::places::STEP;
+use crate::places::STEP_DATA_AT;
 use crate::places::own;
 use crate::places::settings;
 use crate::places::slot;
@@ -19,7 +26,7 @@ use list::part_of;
 fn head_ok(r: &[u8]) -> bool
     ensures { λ b. ⌜ b ≡ countsOk (now (r .entry)) ⌝ }
 {
-    if r.len() < 1048 {
+    if r.len() < OBJECTS_AT {
         return false;
     }
     let n = number_in(r, 0);
@@ -39,7 +46,7 @@ fn head_ok(r: &[u8]) -> bool
     if s < number_in(r, 3) {
         return false;
     }
-    if r.len() < 1048 + n * 2211 + s * 1186 {
+    if r.len() < OBJECTS_AT + n * OBJECT + s * STEP {
         return false;
     }
     true
@@ -61,7 +68,7 @@ fn settings_ok(e: &[u8]) -> bool
     if !rule_ok(byte_in(e, 0) as u32) {
         return false;
     }
-    slot_ok(part_of(e, 17, 1027))
+    slot_ok(part_of(e, DEFAULT_AT, SLOT))
 }
 
 // Whether p may be the parent of object i.
@@ -115,7 +122,7 @@ fn again_ok(r: &[u8], c: usize, u: &[u8]) -> bool
     if c <= i {
         return false;
     }
-    let saved = part_of(u, 2, 1184);
+    let saved = part_of(u, STEP_DATA_AT, OWN_DATA);
     if !block_ok(saved) {
         return false;
     }

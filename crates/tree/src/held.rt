@@ -6,6 +6,14 @@ ghost use Rattle.inherit.specs.Compute.{ordinary as Compute·ordinary};
 ghost use Rattle.tree.specs.Held.{hasList, bytesIn, held, isDone, slotOk, idIn, idOk, blockOk, alike as Held·alike};
 ghost use Rattle.tree.specs.Calls.{toldAs as Calls·told};
 use crate::Answer;
+use crate::places::GROUP_AT;
+use crate::places::IDENTITY;
+use crate::places::LIST_AT;
+use crate::places::LONGEST_LIST;
+use crate::places::OWN_LIST_AT;
+use crate::places::OWNER_AT;
+use crate::places::SLOT;
+use crate::places::TYPE_AT;
 use list::Reading;
 use list::byte_in;
 use list::guid_at;
@@ -30,7 +38,7 @@ pub(crate) fn has_list(s: &[u8]) -> bool
 pub(crate) fn bytes_in(s: &[u8]) -> &[u8]
     ensures { λ r. ⌜ now r ≡ bytesIn (now (s .entry)) ⌝ }
 {
-    part_of(part_of(s, 3, 1024), 0, half_in(s, 1) as usize)
+    part_of(part_of(s, LIST_AT, LONGEST_LIST), 0, half_in(s, 1) as usize)
 }
 
 fn is_done(r: Reading) -> bool
@@ -90,13 +98,13 @@ pub(crate) fn block_ok(b: &[u8]) -> bool
     if 1 < byte_in(b, 2) {
         return false;
     }
-    if !id_ok(part_of(b, 19, 69)) {
+    if !id_ok(part_of(b, OWNER_AT, IDENTITY)) {
         return false;
     }
-    if !id_ok(part_of(b, 88, 69)) {
+    if !id_ok(part_of(b, GROUP_AT, IDENTITY)) {
         return false;
     }
-    slot_ok(part_of(b, 157, 1027))
+    slot_ok(part_of(b, OWN_LIST_AT, SLOT))
 }
 
 // Own data that agrees in parent, kind and type.
@@ -109,7 +117,7 @@ pub(crate) fn alike(a: &[u8], b: &[u8]) -> bool
     if byte_in(a, 1) != byte_in(b, 1) {
         return false;
     }
-    same_guid(guid_at(a, 3), guid_at(b, 3))
+    same_guid(guid_at(a, 3), guid_at(b, TYPE_AT))
 }
 
 // A slot's list in an answer.

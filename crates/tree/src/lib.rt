@@ -22,6 +22,18 @@ use held::ordinary;
 use held::told;
 use inherit::Mapping;
 use list::part_of;
+use places::GROUP_AT;
+use places::IDENTITIES;
+use places::IDENTITY;
+use places::MARK_AT;
+use places::OBJECT;
+use places::OBJECTS_AT;
+use places::OWN_DATA;
+use places::OWN_LIST_AT;
+use places::OWNER_AT;
+use places::SETTINGS_AT;
+use places::SLOT;
+use places::STEP;
 use places::own;
 use places::slot;
 use tests::add_fault;
@@ -94,7 +106,7 @@ pub fn room(objects: u32, steps: u32) -> usize
     if 64 < steps {
         return 0;
     }
-    1048 + objects as usize * 2211 + steps as usize * 1186
+    OBJECTS_AT + objects as usize * OBJECT + steps as usize * STEP
 }
 
 fn start_ok(objects: u32, steps: u32, rule: u32, long: usize) -> bool
@@ -127,8 +139,8 @@ fn empty(
     r[1] = steps as u8;
     r[2] = 0;
     r[3] = 0;
-    lay_settings(r, 4, rule, m, has, default);
-    zero(r, 1048, objects * 2211 + steps * 1186);
+    lay_settings(r, SETTINGS_AT, rule, m, has, default);
+    zero(r, OBJECTS_AT, objects * OBJECT + steps * STEP);
 }
 
 // Starts a tree: object limit 1 to 64, step limit 0 to 64, rule, mapping, a default list or none.
@@ -205,7 +217,7 @@ pub fn add(
         return refused(8);
     }
     let n = number_in(room, 2);
-    let mut b = [0u8; 1184];
+    let mut b = [0u8; OWN_DATA];
     lay_new(
         &mut b,
         parent as usize,
@@ -241,9 +253,9 @@ pub fn set_list(room: &mut [u8], object: u32, has: bool, list: &[u8]) -> Answer
         return refused(8);
     }
     let n = number_in(room, 2);
-    let mut b = [0u8; 1027];
+    let mut b = [0u8; SLOT];
     lay_slot(&mut b, 0, has, list);
-    change(room, 2, i, 157, &b, n)
+    change(room, 2, i, OWN_LIST_AT, &b, n)
 }
 
 // Sets an object's protected mark.
@@ -257,7 +269,7 @@ pub fn set_mark(room: &mut [u8], object: u32, mark: bool) -> Answer
     }
     let n = number_in(room, 2);
     let b = [bit(mark)];
-    change(room, 2, i, 2, &b, n)
+    change(room, 2, i, MARK_AT, &b, n)
 }
 
 // Sets an object's owner and group.
@@ -276,9 +288,9 @@ pub fn set_owner(room: &mut [u8], object: u32, owner: &[u8], group: &[u8]) -> An
         return refused(6);
     }
     let n = number_in(room, 2);
-    let mut b = [0u8; 138];
+    let mut b = [0u8; IDENTITIES];
     lay_owners(&mut b, 0, owner, group);
-    change(room, 2, i, 19, &b, n)
+    change(room, 2, i, OWNER_AT, &b, n)
 }
 
 // Takes off the latest change not yet undone.
@@ -330,7 +342,7 @@ pub fn own_of(room: &[u8], object: u32, out: &mut [u8]) -> Answer
     if k != 0 {
         return refused(k);
     }
-    give_list(part_of(own(room, i), 157, 1027), out)
+    give_list(part_of(own(room, i), OWN_LIST_AT, SLOT), out)
 }
 
 // Own data but for the list, on the front of out.
@@ -338,14 +350,14 @@ fn give_data(b: &[u8], out: &mut [u8]) -> Answer
     requires { ⌜ 19 ≤ length (now b) ⌝ }
     ensures { λ a. ⌜ (a ≡ copied (Answer·Done (length (dataOf (now (b .entry)))) true 0) (dataOf (now (b .entry))) (now (out .entry)) .answer) × (now (out .exit) ≡ copied (Answer·Done (length (dataOf (now (b .entry)))) true 0) (dataOf (now (b .entry))) (now (out .entry)) .bytes) ⌝ }
 {
-    let owner = id_in(part_of(b, 19, 69));
-    let group = id_in(part_of(b, 88, 69));
+    let owner = id_in(part_of(b, OWNER_AT, IDENTITY));
+    let group = id_in(part_of(b, GROUP_AT, IDENTITY));
     let n = owner.len();
     let m = group.len();
     if out.len() < 21 + n + m {
         return refused(8);
     }
-    lay(out, 0, part_of(b, 0, 19));
+    lay(out, 0, part_of(b, 0, OWNER_AT));
     out[19] = n as u8;
     lay(out, 20, owner);
     out[20 + n] = m as u8;

@@ -8,6 +8,9 @@ ghost use Rattle.tree.specs.Room.{objectLimit, stepLimit, keptSteps, roo
 ghost use Rattle.tree.specs.Formed.{Head};
 ghost use Rattle.tree.specs.Calls.{shifted, pushed, popped};
 use crate::held::number_in;
+use crate::places::OBJECT;
+use crate::places::OBJECTS_AT;
+use crate::places::STEP;
 use crate::places::own;
 use crate::writes::lay;
 use crate::writes::least;
@@ -21,10 +24,10 @@ fn shift(r: &[u8], w: &mut [u8])
     let n = number_in(r, 0);
     let s = number_in(r, 1);
     let k = number_in(r, 3);
-    let at = 1048 + n * 2211;
-    let room = at + s * 1186;
+    let at = OBJECTS_AT + n * OBJECT;
+    let room = at + s * STEP;
     lay(w, 0, part_of(r, 0, room));
-    lay(w, at + 1186, part_of(r, at, (s - 1) * 1186));
+    lay(w, at + STEP, part_of(r, at, (s - 1) * STEP));
     w[3] = least(s, k + 1) as u8;
 }
 
@@ -44,7 +47,7 @@ pub(crate) fn push(r: &[u8], w: &mut [u8], tag: u8, i: usize)
     ensures { λ _. ⌜ now (w .exit) ≡ pushed (tag ∷ i ∷ Room·own i (area (now (r .entry)))) (area (now (r .entry))) ⌝ }
 {
     let n = number_in(r, 0);
-    let at = 1048 + n * 2211;
+    let at = OBJECTS_AT + n * OBJECT;
     if number_in(r, 1) == 0 {
         lay(w, 0, part_of(r, 0, at));
         return;
@@ -61,9 +64,9 @@ pub(crate) fn pop(r: &[u8], w: &mut [u8])
     let n = number_in(r, 0);
     let s = number_in(r, 1);
     let k = number_in(r, 3);
-    let at = 1048 + n * 2211;
-    let room = at + s * 1186;
+    let at = OBJECTS_AT + n * OBJECT;
+    let room = at + s * STEP;
     lay(w, 0, part_of(r, 0, room));
-    lay(w, at, part_of(r, at + 1186, (s - 1) * 1186));
+    lay(w, at, part_of(r, at + STEP, (s - 1) * STEP));
     w[3] = (k - 1) as u8;
 }

@@ -2,11 +2,12 @@
 ghost use mathlib.Core.Path.{_≡_};
 ghost use Rattle.inherit.specs.Asked.{lent};
 ghost use Rattle.tree.specs.Model.{shortIf as Calls·short};
-ghost use Rattle.tree.specs.Faults.{objectFault, addFault, faultBy, faultOf};
+ghost use Rattle.tree.specs.Inner.Faults.{objectFault, addFault, faultBy, faultOf};
 use crate::Answer;
 use crate::formed::formed;
 use crate::formed::placed;
 use crate::held::number_in;
+use crate::places::LONGEST_LIST;
 use list::Reading;
 
 // A refusal of a list that is given: its number, 0 for none, and the offset of its entry.
@@ -45,7 +46,7 @@ pub(crate) fn short(has: bool, s: &[u8]) -> bool
     ensures { λ b. ⌜ b ≡ Calls·short (lent has (now (s .entry))) ⌝ }
 {
     if has {
-        return s.len() <= 1024;
+        return s.len() <= LONGEST_LIST;
     }
     true
 }

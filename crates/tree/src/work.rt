@@ -14,6 +14,15 @@ use crate::held::bytes_in;
 use crate::held::has_list;
 use crate::held::id_in;
 use crate::held::number_in;
+use crate::places::DEFAULT_AT;
+use crate::places::GROUP_AT;
+use crate::places::IDENTITY;
+use crate::places::OBJECT;
+use crate::places::OWN_LIST_AT;
+use crate::places::OWNER_AT;
+use crate::places::SLOT;
+use crate::places::SLOTS_AT;
+use crate::places::TYPE_AT;
 use crate::places::own;
 use crate::places::settings;
 use crate::places::slot;
@@ -45,8 +54,8 @@ fn settings_in(e: &[u8], p: &[u8], b: &[u8]) -> Settings
 {
     Settings {
         parent: has_list(p),
-        creator: has_list(part_of(b, 157, 1027)),
-        default: has_list(part_of(e, 17, 1027)),
+        creator: has_list(part_of(b, OWN_LIST_AT, SLOT)),
+        default: has_list(part_of(e, DEFAULT_AT, SLOT)),
         container: byte_in(b, 1) == 1,
         auto: true,
         defaulted: false,
@@ -58,17 +67,17 @@ fn settings_in(e: &[u8], p: &[u8], b: &[u8]) -> Settings
 fn compute_in<'a>(e: &'a [u8], p: &'a [u8], b: &'a [u8], out: &mut [u8]) -> Computed
     ensures { λ r. ⌜ Answers (askedIn (now (e .entry)) (held (now (p .entry))) (now (b .entry))) (now (out .entry)) r (now (out .exit)) ⌝ }
 {
-    let kind = guid_at(b, 3);
+    let kind = guid_at(b, TYPE_AT);
     inherit::compute(
         byte_in(e, 0) as u32,
         settings_in(e, p, b),
         mapping_in(e),
         bytes_in(p),
-        bytes_in(part_of(b, 157, 1027)),
-        bytes_in(part_of(e, 17, 1027)),
+        bytes_in(part_of(b, OWN_LIST_AT, SLOT)),
+        bytes_in(part_of(e, DEFAULT_AT, SLOT)),
         &kind,
-        id_in(part_of(b, 19, 69)),
-        id_in(part_of(b, 88, 69)),
+        id_in(part_of(b, OWNER_AT, IDENTITY)),
+        id_in(part_of(b, GROUP_AT, IDENTITY)),
         out,
     )
 }
@@ -90,7 +99,7 @@ fn rework_one(w: &mut [u8], out: &mut [u8], i: usize) -> bool
     requires { ⌜ (i < 256) × ((slotAt i + 1027 ≤ length (now w)) × (length (now out) ≡ 1024)) ⌝ }
     ensures { λ b. ⌜ (b ≡ isSome (rework i (now (w .entry)))) × (now (w .exit) ≡ orElse (now (w .entry)) (rework i (now (w .entry)))) ⌝ }
 {
-    let at = 2232 + i * 2211;
+    let at = SLOTS_AT + i * OBJECT;
     let v = &w[..];
     match compute_in(settings(v), above(v, i), own(v, i), out) {
         Computed::Present {
@@ -102,7 +111,7 @@ fn rework_one(w: &mut [u8], out: &mut [u8], i: usize) -> bool
             true
         }
         Computed::Absent => {
-            zero(w, at, 1027);
+            zero(w, at, SLOT);
             true
         }
         Computed::Refused {

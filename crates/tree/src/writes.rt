@@ -10,6 +10,13 @@ ghost use Rattle.inherit.specs.Asked.{lent};
 ghost use Rattle.tree.specs.Model.{shortIf};
 ghost use Rattle.tree.specs.Held.{yes, slotFor, idFor, blockFor};
 ghost use Rattle.tree.specs.Room.{settingsFor};
+use crate::places::DEFAULT_AT;
+use crate::places::IDENTITY;
+use crate::places::LIST_AT;
+use crate::places::LONGEST_LIST;
+use crate::places::OWN_LIST_AT;
+use crate::places::OWNER_AT;
+use crate::places::SLOT;
 use inherit::Mapping;
 
 pub(crate) fn least(a: usize, b: usize) -> usize
@@ -55,7 +62,7 @@ pub(crate) fn lay_list(w: &mut [u8], at: usize, s: &[u8])
     w[at + 1] = (n % 256) as u8;
     w[at + 2] = (n / 256) as u8;
     lay(w, at + 3, s);
-    zero(w, at + 3 + n, 1024 - n);
+    zero(w, at + LIST_AT + n, LONGEST_LIST - n);
 }
 
 // The slot of a list, or of none: then s is not looked at.
@@ -67,7 +74,7 @@ pub(crate) fn lay_slot(w: &mut [u8], at: usize, has: bool, s: &[u8])
         lay_list(w, at, s);
         return;
     }
-    zero(w, at, 1027);
+    zero(w, at, SLOT);
 }
 
 // An identity in its field.
@@ -87,7 +94,7 @@ pub(crate) fn lay_owners(w: &mut [u8], at: usize, owner: &[u8], group: &[u8])
     ensures { λ _. ⌜ now (w .exit) ≡ putAt at (idFor (now (owner .entry)) ++ idFor (now (group .entry))) (now (w .entry)) ⌝ }
 {
     lay_id(w, at, owner);
-    lay_id(w, at + 69, group);
+    lay_id(w, at + IDENTITY, group);
 }
 
 // Own data of a new object, in a buffer of its size.
@@ -109,8 +116,8 @@ pub(crate) fn lay_new(
     w[1] = bit(container);
     w[2] = bit(mark);
     lay(w, 3, &kind);
-    lay_owners(w, 19, owner, group);
-    lay_slot(w, 157, has, s);
+    lay_owners(w, OWNER_AT, owner, group);
+    lay_slot(w, OWN_LIST_AT, has, s);
 }
 
 // A 32-bit number at a place.
@@ -137,5 +144,5 @@ pub(crate) fn lay_settings(w: &mut [u8], at: usize, rule: u8, m: Mapping, has: b
     lay_word(w, at + 5, m.write);
     lay_word(w, at + 9, m.execute);
     lay_word(w, at + 13, m.all);
-    lay_slot(w, at + 17, has, default);
+    lay_slot(w, at + DEFAULT_AT, has, default);
 }

@@ -9,7 +9,7 @@ use denote.Ref.{now}
 use lib.ListN.{length}
 use Rattle.tree.specs.declared.Answer.the-variants.{Done}
 use Rattle.tree.specs.Calls.{copied, dataOf, dataTo}
-use Rattle.tree.specs.Faults.{objectFault}
+use Rattle.tree.specs.Inner.Faults.{objectFault}
 use Rattle.tree.proofs.Answered.{settle, on-object-good, on-object-bad, object-small, own-long}
 use Rattle.tree.proofs.data_of.Statement.{statement}
 use Rattle.tree.proofs.data_of.Tie as tie

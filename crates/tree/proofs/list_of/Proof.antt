@@ -6,7 +6,7 @@ use Prim.Native.Nat.{ℕ}
 use denote.Ref.{now}
 use Rattle.tree.specs.Held.{held}
 use Rattle.tree.specs.Calls.{toldAs, listBytes, copied, listTo}
-use Rattle.tree.specs.Faults.{objectFault}
+use Rattle.tree.specs.Inner.Faults.{objectFault}
 use Rattle.tree.proofs.Answered.{settle, on-object-good, on-object-bad, object-small}
 use Rattle.tree.proofs.list_of.Statement.{statement}
 use Rattle.tree.proofs.list_of.Tie as tie

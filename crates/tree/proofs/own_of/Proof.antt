@@ -7,7 +7,7 @@ use denote.Ref.{now}
 use Rattle.list.specs.Bytes.{part}
 use Rattle.tree.specs.Held.{held}
 use Rattle.tree.specs.Calls.{toldAs, listBytes, copied, ownTo}
-use Rattle.tree.specs.Faults.{objectFault}
+use Rattle.tree.specs.Inner.Faults.{objectFault}
 use Rattle.tree.proofs.Answered.{settle, on-object-good, on-object-bad, object-small}
 use Rattle.tree.proofs.own_of.Statement.{statement}
 use Rattle.tree.proofs.own_of.Tie as tie

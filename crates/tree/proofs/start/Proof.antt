@@ -11,7 +11,7 @@ use Rattle.tree.specs.declared.Answer.{Answer}
 use Rattle.tree.specs.declared.Answer.the-variants.{Refused}
 use Rattle.tree.specs.declared.tests.Fault.{Fault}
 use Rattle.tree.specs.Calls.{startOk, startTo}
-use Rattle.tree.specs.Faults.{faultOf}
+use Rattle.tree.specs.Inner.Faults.{faultOf}
 use Rattle.tree.proofs.Tested.{refused, passed}
 use Rattle.tree.proofs.Answered.{settle, need-yes, need-no, readable-good, readable-bad, start-facts}
 use Rattle.tree.proofs.start.Statement.{statement}

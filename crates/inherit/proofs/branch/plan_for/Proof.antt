@@ -3,7 +3,7 @@ use borrow.Author.Needs.{needs}
 use mathlib.Core.Path.{_≡_}
 use mathlib.Core.Bool.{true, false}
 use borrow.Author.Tests.{not-true, not-false}
-use Rattle.inherit.specs.Plan.{planOf}
+use Rattle.inherit.specs.Inner.Plan.{planOf}
 use Rattle.inherit.proofs.branch.plan_for.Statement.{statement}
 use Rattle.inherit.proofs.branch.plan_for.Tie as tie
 

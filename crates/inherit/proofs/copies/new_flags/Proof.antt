@@ -1,7 +1,7 @@
 -- Each pass has its flags. Assumes nothing.
 use borrow.Author.Needs.{needs}
 use Rattle.inherit.specs.Copies.{keptFlags}
-use Rattle.inherit.specs.Emit.{flagsBy}
+use Rattle.inherit.specs.Inner.Emit.{flagsBy}
 use Rattle.inherit.proofs.copies.new_flags.Statement.{statement}
 use Rattle.inherit.proofs.copies.new_flags.Tie as tie
 

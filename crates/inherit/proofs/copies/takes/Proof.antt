@@ -5,7 +5,7 @@ use mathlib.Core.Bool.{not, _&&_}
 use Rattle.list.specs.declared.entries.Entry.{Entry}
 use Rattle.inherit.specs.Asked.{has}
 use Rattle.inherit.specs.Copies.{takesSecond}
-use Rattle.inherit.specs.Emit.{takesBy}
+use Rattle.inherit.specs.Inner.Emit.{takesBy}
 use Rattle.inherit.proofs.copies.takes.Statement.{statement}
 use Rattle.inherit.proofs.copies.takes.Tie as tie
 

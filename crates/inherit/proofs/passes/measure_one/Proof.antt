@@ -12,7 +12,7 @@ use lib.Seq.{getD-drop}
 use Rattle.list.proofs.Little.{le-lt}
 use Rattle.list.specs.declared.entries.Entry.{Entry}
 use Rattle.inherit.specs.Asked.{Given}
-use Rattle.inherit.specs.Emit.{takesBy, givenBy, Lies}
+use Rattle.inherit.specs.Inner.Emit.{takesBy, givenBy, Lies}
 use Rattle.inherit.proofs.One.{measures, lies, gives-none, gives-one}
 use Rattle.inherit.proofs.passes.measure_one.Statement.{statement}
 use Rattle.inherit.proofs.passes.measure_one.Tie as tie

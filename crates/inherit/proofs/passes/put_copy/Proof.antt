@@ -8,7 +8,7 @@ use denote.Ref.{now}
 use lib.ListN.{length, take, drop}
 use Rattle.list.specs.Bytes.{front}
 use Rattle.list.specs.Entry.{middleOf, tailOf, entryBytes}
-use Rattle.inherit.specs.Emit.{putIn}
+use Rattle.inherit.specs.Inner.Emit.{putIn}
 use Rattle.inherit.proofs.Lying.{middle-part, tail-part, put-in-is, copy-size}
 use Rattle.inherit.proofs.passes.put_copy.Statement.{statement}
 use Rattle.inherit.proofs.passes.put_copy.Tie as tie

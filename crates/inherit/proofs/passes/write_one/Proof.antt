@@ -12,7 +12,7 @@ use Rattle.list.specs.Bytes.{front}
 use Rattle.list.specs.Entry.{middleOf, tailOf, entryBytes}
 use Rattle.list.specs.declared.entries.Entry.{Entry}
 use Rattle.inherit.specs.Asked.{Given}
-use Rattle.inherit.specs.Emit.{takesBy, givenBy, Lies, putIn}
+use Rattle.inherit.specs.Inner.Emit.{takesBy, givenBy, Lies, putIn}
 use Rattle.inherit.proofs.One.{lies, writes-none, length-one, writes-one}
 use Rattle.inherit.proofs.passes.write_one.Statement.{statement}
 use Rattle.inherit.proofs.passes.write_one.Tie as tie

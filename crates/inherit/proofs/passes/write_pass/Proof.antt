@@ -9,7 +9,7 @@ use Rattle.list.specs.Bytes.{front}
 use Rattle.list.specs.Entry.{access, sizeOf}
 use Rattle.list.specs.Good.{Sound}
 use Rattle.inherit.specs.Asked.{Given}
-use Rattle.inherit.specs.Emit.{givenBy, emitOf}
+use Rattle.inherit.specs.Inner.Emit.{givenBy, emitOf}
 use Rattle.inherit.proofs.Loops.{rest-is, next-entry, inside, Writing, writing-none, to-fits, long, one-fits, writing-turn, written-all}
 use Rattle.inherit.proofs.passes.write_pass.Statement.{statement}
 use Rattle.inherit.proofs.passes.write_pass.Tie as tie

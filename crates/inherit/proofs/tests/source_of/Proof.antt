@@ -8,7 +8,7 @@ use denote.Ref.{now}
 use Rattle.list.specs.Entry.{access}
 use Rattle.list.proofs.Answers.{checked}
 use Rattle.list.proofs.Told.{told}
-use Rattle.inherit.specs.Source.{sourceBy, sourceOf}
+use Rattle.inherit.specs.Inner.Source.{sourceBy, sourceOf}
 use Rattle.inherit.proofs.tests.source_of.Statement.{statement}
 use Rattle.inherit.proofs.tests.source_of.Tie as tie
 

@@ -12,8 +12,8 @@ use Rattle.list.proofs.Writes.{length-front, tail-front}
 use Rattle.list.proofs.Parts.{length-head}
 use Rattle.inherit.specs.declared.passes.Measure.{Measure}
 use Rattle.inherit.specs.Asked.{Given}
-use Rattle.inherit.specs.Emit.{givenBy}
-use Rattle.inherit.specs.Plan.{gathered}
+use Rattle.inherit.specs.Inner.Emit.{givenBy}
+use Rattle.inherit.specs.Inner.Plan.{gathered}
 use Rattle.inherit.proofs.Fills.{gathered-eight, fill-absent, fill-short, fill-long, fill-measured, header-then}
 use Rattle.inherit.proofs.whole.fill.Statement.{statement}
 use Rattle.inherit.proofs.whole.fill.Tie as tie

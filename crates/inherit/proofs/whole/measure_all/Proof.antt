@@ -4,7 +4,7 @@ use native.Mathlib.Omega.{arith}
 use mathlib.Core.Path.{ap₂, _∙_}
 use denote.Ref.{now}
 use Rattle.inherit.specs.declared.copies.Pass.the-variants.{First, Second, Own, All}
-use Rattle.inherit.specs.Emit.{givenBy, emitted, both}
+use Rattle.inherit.specs.Inner.Emit.{givenBy, emitted, both}
 use Rattle.inherit.proofs.Gather.{measure-four, Within, within-one, within-more}
 use Rattle.inherit.proofs.whole.measure_all.Statement.{statement}
 use Rattle.inherit.proofs.whole.measure_all.Tie as tie

@@ -9,7 +9,7 @@ use lib.ListN.{length}
 use Rattle.list.specs.Bytes.{front}
 use Rattle.inherit.specs.declared.copies.Pass.the-variants.{First, Second, Own, All}
 use Rattle.inherit.specs.Asked.{Given}
-use Rattle.inherit.specs.Emit.{givenBy, emitted}
+use Rattle.inherit.specs.Inner.Emit.{givenBy, emitted}
 use Rattle.inherit.proofs.Gather.{flatten-four, length-four, onward-length, four-front}
 use Rattle.inherit.proofs.whole.write_all.Statement.{statement}
 use Rattle.inherit.proofs.whole.write_all.Tie as tie

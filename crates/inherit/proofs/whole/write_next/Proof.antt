@@ -4,7 +4,7 @@ use mathlib.Core.Path.{ap}
 use mathlib.Core.List.{flatten}
 use Prim.Native.Nat.{ℕ, _+_}
 use denote.Ref.{now}
-use Rattle.inherit.specs.Emit.{givenBy, emitted}
+use Rattle.inherit.specs.Inner.Emit.{givenBy, emitted}
 use Rattle.inherit.proofs.Gather.{onward-tail}
 use Rattle.inherit.proofs.whole.write_next.Statement.{statement}
 use Rattle.inherit.proofs.whole.write_next.Tie as tie

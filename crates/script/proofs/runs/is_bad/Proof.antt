@@ -1,7 +1,7 @@
 -- Each arm is a case of `isBad`. Assumes nothing.
 use borrow.Author.Needs.{needs}
 use mathlib.Core.Path.{sym, _∙_}
-use Rattle.script.specs.Fold.{isBad}
+use Rattle.script.specs.Inner.Runs.{isBad}
 use Rattle.script.proofs.runs.is_bad.Statement.{statement}
 use Rattle.script.proofs.runs.is_bad.Tie as tie
 

@@ -1,7 +1,7 @@
 -- Each arm is a case of `lengthIf` and of `roomIf`. Assumes nothing.
 use borrow.Author.Needs.{needs}
 use mathlib.Core.Path.{refl, sym, _∙_}
-use Rattle.script.specs.Fold.{lengthIf, roomIf}
+use Rattle.script.specs.Inner.Runs.{lengthIf, roomIf}
 use Rattle.script.proofs.runs.next.Statement.{statement}
 use Rattle.script.proofs.runs.next.Tie as tie
 

@@ -6,7 +6,7 @@ use mathlib.Core.List.{List}
 use Prim.Native.Nat.{ℕ, _+_}
 use lib.ListN.{length}
 use denote.Ref.{now}
-use Rattle.script.specs.Text.{laidAt}
+use Rattle.script.specs.Inner.Laying.{laidAt}
 use Rattle.script.proofs.Laid.{text-end, decimal-20}
 use Rattle.script.proofs.texts.put_decimal.Statement.{statement}
 use Rattle.script.proofs.texts.put_decimal.Tie as tie

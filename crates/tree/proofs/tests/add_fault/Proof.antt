@@ -9,7 +9,7 @@ use borrow.Author.Tests.{lt-ltb, le-ltb}
 use Rattle.tree.specs.Room.{objectLimit, objects, ownData}
 use Rattle.tree.specs.Formed.{placedIn, formed}
 use Rattle.tree.specs.Calls.{nobody}
-use Rattle.tree.specs.Faults.{addFault}
+use Rattle.tree.specs.Inner.Faults.{addFault}
 use Rattle.tree.proofs.Tested.{refused, passed}
 use Rattle.tree.proofs.tests.add_fault.Statement.{statement}
 use Rattle.tree.proofs.tests.add_fault.Tie as tie

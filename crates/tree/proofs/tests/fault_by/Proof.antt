@@ -1,6 +1,6 @@
 -- By the two cases of a reading. Assumes nothing.
 use borrow.Author.Needs.{needs}
-use Rattle.tree.specs.Faults.{faultBy}
+use Rattle.tree.specs.Inner.Faults.{faultBy}
 use Rattle.tree.proofs.tests.fault_by.Statement.{statement}
 use Rattle.tree.proofs.tests.fault_by.Tie as tie
 

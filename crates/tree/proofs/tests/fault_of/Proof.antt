@@ -2,7 +2,7 @@
 use borrow.Author.Needs.{needs}
 use mathlib.Core.Path.{ap, _∙_}
 use Rattle.list.proofs.Answers.{checked}
-use Rattle.tree.specs.Faults.{faultBy, faultOf}
+use Rattle.tree.specs.Inner.Faults.{faultBy, faultOf}
 use Rattle.tree.proofs.tests.fault_of.Statement.{statement}
 use Rattle.tree.proofs.tests.fault_of.Tie as tie
 

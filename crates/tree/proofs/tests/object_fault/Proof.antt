@@ -4,7 +4,7 @@ use native.Mathlib.Omega.{arith}
 use denote.Ref.{now}
 use borrow.Author.Tests.{lt-ltb, le-ltb}
 use Rattle.tree.specs.Room.{objects}
-use Rattle.tree.specs.Faults.{objectFault}
+use Rattle.tree.specs.Inner.Faults.{objectFault}
 use Rattle.tree.proofs.Tested.{refused, passed}
 use Rattle.tree.proofs.tests.object_fault.Statement.{statement}
 use Rattle.tree.proofs.tests.object_fault.Tie as tie

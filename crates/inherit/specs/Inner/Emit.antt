@@ -1,4 +1,4 @@
--- How the code goes over a list: by passes, each entry through its pass and the last step at once. Only private functions' contracts cite this file.
+-- How the code goes over a list: by passes, each entry through its pass and the last step at once.
 use mathlib.Core.Path.{_≡_}
 use Prim.Native.Nat.{ℕ, _+_}
 use mathlib.Core.List.{List, [], _∷_, _++_, flatten}

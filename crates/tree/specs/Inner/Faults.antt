@@ -1,4 +1,4 @@
--- How the code finds a refusal: its number, 0 for none. Only private functions' contracts cite what is here; what a call answers is in Calls.
+-- How the code finds a refusal: its number, 0 for none. What a call answers is in Calls.
 use Prim.Native.Nat.{ℕ}
 use mathlib.Core.List.{List}
 use mathlib.Core.Bool.{cond}

@@ -1,4 +1,4 @@
--- What the code finds of a list that may be absent: its refusal, or how its entries are read. Only private functions' contracts cite this file.
+-- What the code finds of a list that may be absent: its refusal, or how its entries are read.
 use mathlib.Core.Path.{_≡_}
 use mathlib.Core.Bool.{true}
 use Prim.Native.Nat.{ℕ, _≤_}

@@ -1,4 +1,4 @@
--- Which passes the code makes over which list, in which branch, and what they give together. Only private functions' contracts cite this file.
+-- Which passes the code makes over which list, in which branch, and what they give together.
 use Prim.Native.Nat.{ℕ, _≤_}
 use mathlib.Core.Path.{_≡_}
 use mathlib.Core.List.{List, [], _++_}
@@ -15,7 +15,7 @@ use Rattle.inherit.specs.declared.whole.Parts.{Parts}
 use Rattle.inherit.specs.declared.copies.Pass.the-variants.{First, Second, Own, All}
 use Rattle.inherit.specs.Asked.{Given}
 use Rattle.inherit.specs.Branch.{Result, absent, holds, inheritedBit}
-use Rattle.inherit.specs.Emit.{emitAll, emitted}
+use Rattle.inherit.specs.Inner.Emit.{emitAll, emitted}
 
 -- from the parent alone
 abbrev pub parentOnly : Plan
