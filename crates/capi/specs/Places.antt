@@ -12,7 +12,7 @@ use Rattle.inherit.specs.declared.Settings.{Settings}
 use Rattle.inherit.specs.declared.Mapping.{Mapping}
 use Rattle.tree.specs.Held.{New}
 
--- document 01's values in their places; the last place is 0
+-- the values of an answer in their places (RULES 8.1); the last place is 0
 abbrev pub placesOf : Values → List ℕ
 placesOf v = v .number ∷ v .list ∷ v .offset ∷ v .length ∷ v .present ∷ v .count ∷ v .control ∷ 0 ∷ []
 

@@ -19,7 +19,7 @@ use inherit::Settings;
 use list::Reading;
 use tree::Answer;
 
-// Document 01's values, each in its place.
+// The values of an answer, each in its place (RULES 8.1).
 fn put_values(
     answer: &mut [u32; 8],
     number: u32,

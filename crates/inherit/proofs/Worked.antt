@@ -1,4 +1,4 @@
--- Document 01's lists worked by hand, K1 to K12: one table, one statement, by computation.
+-- The lists worked by hand (RULES 5), K1 to K12: one table, one statement, by computation.
 use mathlib.Core.Path.{_≡_, refl}
 use mathlib.Core.Bool.{Bool, true, false}
 use mathlib.Core.List.{List, [], _∷_, _++_, map, flatten}

@@ -1,4 +1,4 @@
--- What a computation is asked.
+-- What a computation is asked (RULES 2.1).
 use Prim.Native.Nat.{ℕ, _%_, _/_}
 use mathlib.Core.List.{List, [], _∷_}
 use mathlib.Core.Bool.{Bool, true, false, not, cond, _&&_}

@@ -1,4 +1,4 @@
--- The five branches of the computation, by document 01's table.
+-- The five branches of the computation, by the table of RULES 2.10.
 use Prim.Native.Nat.{ℕ}
 use mathlib.Core.List.{List, [], _++_}
 use mathlib.Core.Bool.{Bool, true, false, not, cond, _&&_}

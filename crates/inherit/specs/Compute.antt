@@ -1,4 +1,4 @@
--- What the computation answers for any arguments, and what the result's buffer holds afterwards.
+-- What the computation answers for any arguments (RULES 4.4), and what the result's buffer holds afterwards (RULES 2.13, 2.14).
 use Prim.Native.Nat.{ℕ, _+_}
 use mathlib.Core.Path.{_≡_}
 use mathlib.Core.List.{List, [], _∷_, flatten}
@@ -101,7 +101,7 @@ askedBy rule s mapping parent creator default types owner group =
       protected = s .protect;
     }
 
--- document 01's number and values for each case of the call's answer
+-- the number and values (RULES 4.2) for each case of the call's answer
 abbrev pub computedValues : Computed → Values
 computedValues (Present len n control) = done len 1 n control
 computedValues Absent = done 0 0 0 0

@@ -1,4 +1,4 @@
--- What is copied from the parent's list and from the creator's, before the last step. An entry is its bytes.
+-- What is copied from the parent's list and from the creator's, before the last step (RULES 2.2 to 2.6). An entry is its bytes.
 use Prim.Native.Nat.{ℕ}
 use mathlib.Core.List.{List, [], _∷_, _++_}
 use mathlib.Core.Bool.{Bool, true, false, not, cond, _&&_, _||_}

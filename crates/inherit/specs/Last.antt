@@ -1,4 +1,4 @@
--- The last step: entries pass by a filter; a placeholder becomes the owner or the group; generic bits are mapped.
+-- The last step (RULES 2.7 to 2.9): entries pass by a filter; a placeholder becomes the owner or the group; generic bits are mapped.
 use Prim.Native.Nat.{ℕ}
 use mathlib.Core.List.{List, [], _∷_, _++_}
 use mathlib.Core.Bool.{Bool, not, cond, _||_}

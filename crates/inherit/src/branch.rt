@@ -1,4 +1,4 @@
-// Which branch of document 01's table is taken.
+// Which branch of the table is taken (RULES 2.10).
 ghost use mathlib.Core.Path.{_≡_};
 ghost use lib.ListN.{drop};
 ghost use Rattle.list.specs.Entry.{access, sizeOf};

@@ -20,7 +20,7 @@ eg s m v = record { list = s; row = m; answer = v }
 
 pub table : List Example
 table =
-    -- document 01's parent list
+    -- the parent's list of RULES 5.1
     eg (0x02 ∷ 0 ∷ 0x1C ∷ 0 ∷ 0x01 ∷ 0 ∷ 0 ∷ 0
     ∷ 0x00 ∷ 0x03 ∷ 0x14 ∷ 0 ∷ 0 ∷ 0 ∷ 0 ∷ 0x80 ∷ 0x01 ∷ 0x01 ∷ 0 ∷ 0 ∷ 0 ∷ 0 ∷ 0 ∷ 0x03 ∷ 0 ∷ 0 ∷ 0 ∷ 0 ∷ []) 2 (done 28 1 1 0)
     -- 1: the size isn't the length

@@ -1,4 +1,4 @@
--- The numbers and values that document 01 gives for each case of an answer.
+-- The numbers and values (RULES 4.1, 4.2) of each case of an answer.
 use Prim.Native.Nat.{ℕ}
 use mathlib.Core.List.{List}
 use Rattle.list.specs.Entry.{access}

@@ -1,4 +1,4 @@
--- One entry of a list, read off the bytes t that it begins; of what follows it in t only the length counts, in (a).
+-- One entry of a list (RULES 1.5, 1.6, 4.3), read off the bytes t that it begins; of what follows it in t only the length counts, in (a).
 use Prim.Native.Nat.{ℕ, _+_, _-_, _*_, _/_, _%_}
 use mathlib.Core.List.{List, [], _∷_, _++_}
 use mathlib.Core.Bool.{Bool, true, false, cond, _&&_, _||_}

@@ -1,4 +1,4 @@
--- Identities (SIDs): one byte 1; one byte n, 0 to 15; six bytes of authority; n 32-bit numbers.
+-- Identities (SIDs; RULES 1.2, 1.3): one byte 1; one byte n, 0 to 15; six bytes of authority; n 32-bit numbers.
 use Prim.Native.Nat.{ℕ, _+_, _*_}
 use mathlib.Core.List.{List, [], _∷_}
 use mathlib.Core.Bool.{Bool, true, false, cond, _&&_}

@@ -1,4 +1,4 @@
--- A whole list: its header, its entries one after the other, their offsets, and what the reader answers.
+-- A whole list (RULES 1.4, 1.7, 4.3): its header, its entries one after the other, their offsets, and what the reader answers.
 use Prim.Native.Nat.{ℕ, zero, suc, _+_}
 use mathlib.Core.List.{List, [], _∷_, _++_, flatten}
 use mathlib.Core.Bool.{Bool, cond, _&&_, _||_}

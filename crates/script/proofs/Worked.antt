@@ -1,4 +1,4 @@
--- The definitions, computed: records, numbers and texts, and document 01's own script with the whole text that it writes.
+-- The definitions, computed: records, numbers and texts, and the script of RULES 6.7 with the whole text that it writes.
 use mathlib.Core.Path.{_≡_, refl, sym, ap, _∙_}
 use mathlib.Core.Bool.{true}
 use mathlib.Core.List.{List, [], _∷_, _++_, flatten}
@@ -65,7 +65,7 @@ pub texts-worked :
 unfolding le digits decimal columnsBy columns line lines heading listing badLine
 texts-worked = (refl, refl)
 
--- ---- document 01's own script
+-- ---- the script of RULES 6.7
 
 -- owner and group S-1-5-18
 abbrev names : List ℕ
@@ -108,7 +108,7 @@ two-lists (x ∷ y ∷ []) a b n p q =
     rw (e, f) refl
 two-lists (x ∷ y ∷ z ∷ os) a b n p q = absurd (omega arith)
 
--- the three lines of document 01, byte for byte
+-- its three lines, byte for byte
 pub document-listed :
     textOf (endingOf document)
     ≡ 111 ∷ 98 ∷ 106 ∷ 101 ∷ 99 ∷ 116 ∷ 115 ∷ 32 ∷ 50 ∷ 10

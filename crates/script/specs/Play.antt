@@ -17,7 +17,7 @@ use Rattle.tree.specs.Calls.{Outcome, copied, refuse}
 use Rattle.script.specs.Fold.{Run, runOf, Stage}
 use Rattle.script.specs.Text.{listing, badLine}
 
--- the mapping of document 01's lists worked by hand
+-- the mapping of the lists worked by hand (RULES 5.1)
 abbrev pub mapping : Mapping
 mapping = record { read = 0x00120089; write = 0x00120116; execute = 0x001200A0; all = 0x001F01FF }
 

@@ -1,4 +1,4 @@
--- The records of a script, as document 01 lists them. A record is its bytes from its number on; bytes that are not there count as 0.
+-- The records of a script (RULES 6.2, 6.3). A record is its bytes from its number on; bytes that are not there count as 0.
 use Prim.Native.Nat.{ℕ, _+_}
 use mathlib.Core.List.{List}
 use mathlib.Core.Bool.{Bool, true, cond, not, _&&_}

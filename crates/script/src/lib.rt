@@ -41,7 +41,7 @@ pub fn head_ok(script: &[u8]) -> bool
     half_in(script, 3) == 1
 }
 
-// Starts a script's tree: limits 16 and 16, document 01's mapping, rule 2 and no default.
+// Starts a script's tree: limits 16 and 16, rule 2, its mapping and no default (RULES 6.4).
 pub fn begin(room: &mut [u8]) -> Answer
     ensures { λ a. ⌜ (a ≡ beginTo (now (room .entry)) .answer) × (now (room .exit) ≡ beginTo (now (room .entry)) .bytes) ⌝ }
 {

@@ -12,7 +12,7 @@ use list::part_of;
 use tree::Answer;
 
 // A record at the front of a slice: some of its bytes are missing, its form is bad, or it is whole: how many bytes it has, and what it
-// asks by document 01's number (1 add, 2 set list, 3 mark, 4 owner and group, 5 undo).
+// asks by its number (RULES 6.2: 1 add, 2 set list, 3 mark, 4 owner and group, 5 undo).
 pub enum Found {
     Cut,
     Bad,

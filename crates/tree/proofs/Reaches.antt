@@ -1,6 +1,6 @@
 -- Demand 3, for every sequence of calls on a started tree. After any mixture of changes, undos and refused calls: the room is well formed; every object's own
 -- data is what a replay of the accepted changes not since undone gives; every computed list is the one worked out afresh from the root (Replay's fromRoot, up
--- the parents); as many steps are kept as document 01 says; the next call is accepted exactly where the past says so, and where it is refused no byte
+-- the parents); as many steps are kept as RULES 3.8 says; the next call is accepted exactly where the past says so, and where it is refused no byte
 -- changes; undo answers 11 exactly where no kept step is left, else it is done.
 -- Besides, for any well-formed room, reached by calls or not: a call leaves it well formed, and an accepted one leaves every list fresh.
 use mathlib.Core.Path.{_≡_, refl, sym, ap, _∙_, subst}

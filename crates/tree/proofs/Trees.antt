@@ -1,4 +1,4 @@
--- Trees worked by hand: document 01's script, K7 to K9, a default list, undo, forgotten steps and refusals, computed over the model; and, by demand 3, what the
+-- Trees worked by hand: the script of RULES 6.7, K7 to K9, a default list, undo, forgotten steps and refusals, computed over the model; and, by demand 3, what the
 -- calls answer in any room.
 use mathlib.Core.Path.{_≡_, refl, sym, ap, ap₂, _∙_}
 use mathlib.Core.Bool.{Bool, true, false}
@@ -62,7 +62,7 @@ unfolding fitting listFrom listed apply objectsAfter placed shortIf told outcome
 model-open = tt
 
 pub record Worked : Type 0 where
-  -- document 01's listing: 0 28 1, then 1 48 2; and the lists' bytes
+  -- the listing of RULES 6.7: 0 28 1, then 1 48 2; and the lists' bytes
   pub script-answers : answers (tree 2 16 none) (child false none ∷ root ∷ []) ≡ done 48 1 2 0 ∷ done 28 1 1 0 ∷ []
   pub script-first : listAfter (tree 2 16 none) (child false none ∷ root ∷ []) 0 ≡ some (some (bytes 0x1C 1 (inherited 0x03 ∷ [])))
   pub script-second : listAfter (tree 2 16 none) (child false none ∷ root ∷ []) 1 ≡ some (some (bytes 0x30 2 (inherited 0x10 ∷ inherited 0x1B ∷ [])))
@@ -86,7 +86,7 @@ pub record Worked : Type 0 where
   -- with S = 1 the first of two changes is forgotten; with S = 0 nothing can be undone
   pub forgotten : answers (tree 2 1 none) (undo ∷ undo ∷ child true none ∷ root ∷ []) ≡ refused 11 0 0 ∷ done 0 0 0 0 ∷ done 48 1 2 0 ∷ done 28 1 1 0 ∷ []
   pub never-kept : answers (tree 2 0 none) (undo ∷ root ∷ []) ≡ refused 11 0 0 ∷ done 28 1 1 0 ∷ []
-  -- refusals in document 01's order: a second root, a first object with a parent, no such object 9; the limit reached 10, even with a bad list; a list cut
+  -- refusals in the order of RULES 4.5: a second root, a first object with a parent, no such object 9; the limit reached 10, even with a bad list; a list cut
   -- short 1, of list 2; a placeholder for owner 6
   pub two-roots : answers (tree 2 16 none) (root ∷ root ∷ []) ≡ refused 9 0 0 ∷ done 28 1 1 0 ∷ []
   pub no-root : answers (tree 2 16 none) (child false none ∷ []) ≡ refused 9 0 0 ∷ []

@@ -1,4 +1,4 @@
--- The definitions, computed: the formula and its bound, and the tree of document 01's script, where the worked parent is the root's own list and one
+-- The definitions, computed: the formula and its bound, and the tree of RULES 6.7's script, where the worked parent is the root's own list and one
 -- container stands below it.
 use mathlib.Core.Path.{_≡_, refl}
 use mathlib.Core.Bool.{true, false}
@@ -58,7 +58,7 @@ tree-open = tt
 
 -- ---- a room's length
 
--- the formula keeps document 01's bound
+-- the formula keeps the bound of RULES 3.2
 pub bound : (n s : ℕ) → roomFor n s ≤ 2048 + 2400 * n + 1280 * s
 bound n s = omega arith
 
@@ -71,7 +71,7 @@ pub nothing : formed [] ≡ false
 unfolding formed countsOk
 nothing = refl
 
--- ---- the tree of document 01's script
+-- ---- the tree of RULES 6.7's script
 
 abbrev container : ℕ → MaybeList → New
 container parent list =

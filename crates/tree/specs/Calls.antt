@@ -23,7 +23,7 @@ use Rattle.tree.specs.Room.{objectLimit, stepLimit, objects, keptSteps, 
 use Rattle.tree.specs.Formed.{placedIn, standing, formed}
 use Rattle.tree.specs.Work.{reworked}
 
--- document 01's number and values for each case
+-- the number and values (RULES 4.2) for each case
 abbrev pub answerValues : Answer → Values
 answerValues (Done len is n) = done len (yes is) n 0
 answerValues (Refused k which at) = refused k which at

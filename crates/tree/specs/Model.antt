@@ -1,4 +1,4 @@
--- The tree: its objects, their computed lists, changes and undo, and what each call answers. Nothing here is about the bytes of a room:
+-- The tree (RULES 3): its objects, their computed lists, changes and undo, and what each call answers (RULES 4.5). Nothing here is about the bytes of a room:
 -- proofs/Demand3 shows that a room reached by calls holds what is here, and that each call answers what is here.
 use Prim.Native.Nat.{ℕ, zero, suc, min}
 use mathlib.Core.Bool.{Bool, true, false, cond, _&&_}
