@@ -1,6 +1,7 @@
 -- Each public call's contract allows one result only, and one content of what it is lent to change.
 use mathlib.Core.Path.{_≡_, sym, _∙_}
 use denote.Ref.{now}
+use Rattle.tree.proofs.Numbers.{promised-same}
 use Rattle.list.proofs.Determinacy.{Determines, OneResult}
 use Rattle.script.proofs.records.step.Kinds as step
 use Rattle.script.proofs.records.step.Reads as step-reads
@@ -37,13 +38,13 @@ pub head-ok-determined : OneResult 1 head-ok.ps head-ok.r head-ok-reads.Learnt
 head-ok-determined κs a x y s t p q = p ∙ sym q
 
 pub begin-determined : Determines 1 begin.ps begin.r (λ κs x y s t. (x ≡ y) × (now (s .0) ≡ now (t .0))) begin-reads.Learnt
-begin-determined κs a x y s t p q = (p .0 ∙ sym (q .0), p .1 ∙ sym (q .1))
+begin-determined κs a x y s t p q = promised-same p q
 
 pub listing-determined : Determines 2 listing.ps listing.r (λ κs x y s t. (x ≡ y) × (now (s .1 .0) ≡ now (t .1 .0))) listing-reads.Learnt
-listing-determined κs a x y s t p q = (p .0 ∙ sym (q .0), p .1 ∙ sym (q .1))
+listing-determined κs a x y s t p q = promised-same p q
 
 pub bad-at-determined : Determines 1 bad-at.ps bad-at.r (λ κs x y s t. (x ≡ y) × (now (s .1 .0) ≡ now (t .1 .0))) bad-at-reads.Learnt
-bad-at-determined κs a x y s t p q = (p .0 ∙ sym (q .0), p .1 ∙ sym (q .1))
+bad-at-determined κs a x y s t p q = promised-same p q
 
 pub play-determined : Determines 2 play.ps play.r (λ κs x y s t. (x ≡ y) × (now (s .1 .0) ≡ now (t .1 .0))) play-reads.Learnt
-play-determined κs a x y s t p q = (p .0 ∙ sym (q .0), p .1 ∙ sym (q .1))
+play-determined κs a x y s t p q = promised-same p q

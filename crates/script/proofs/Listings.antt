@@ -17,7 +17,8 @@ use Rattle.tree.specs.Held.{hasList, bytesIn, held}
 use Rattle.tree.specs.Room.{objects, slot}
 use Rattle.tree.specs.Formed.{formed}
 use Rattle.list.specs.Order.{need}
-use Rattle.tree.specs.Calls.{toldAs, onObject, listBytes, copied, listTo, countsTo}
+use Rattle.tree.proofs.Numbers.{Numbered, promised, numbered-need, numbered-copied}
+use Rattle.tree.specs.Calls.{Promised, toldAs, onObject, listBytes, copied, listTo, countsTo}
 use Rattle.tree.proofs.Tested.{head-says, formed-parts, bytes-most}
 use Rattle.tree.proofs.Tab.{length-tab, getD-tab}
 use Rattle.script.specs.Text.{decimal, objects-text, none-text, space, newline, columnsBy, columns, line, lines, heading, listing, badLine}
@@ -117,25 +118,46 @@ module _ (e : Ending) (out : List ℕ) where
   unfolding textTo copied need
   written-all h = simp tests (refl, laid-all (textOf e) out h)
 
+-- the promise, from the definition's case
+ending-numbered : (e : Ending) → Numbered (endingAnswer e)
+unfolding endingAnswer
+ending-numbered (Listed os) = tt
+ending-numbered (BadAt n) = tt
+
+text-numbered : (e : Ending) (out : List ℕ) → Numbered (textTo e out .answer)
+unfolding textTo
+text-numbered e out = numbered-copied (endingAnswer e) (textOf e) out (ending-numbered e)
+
+text-promised : (e : Ending) (out : List ℕ) {a : Answer} {done : List ℕ} → (a ≡ textTo e out .answer) × (done ≡ textTo e out .bytes) → Promised (textTo e out) a done
+text-promised e out p = promised (textTo e out) (text-numbered e out) p
+
+listing-numbered : (r out : List ℕ) → Numbered (listingTo r out .answer)
+unfolding listingTo
+listing-numbered r out = numbered-need _ 13 out _ (λ z. omega arith) (text-numbered (Listed (listsIn r)) out)
+
 module _ (n : ℕ) (out : List ℕ) {r : ℕ} (e : r ≡ length (badLine n)) where
-  pub bad-no : length out < r → {a : Answer} → a ≡ Refused 8 0 0 → (a ≡ textTo (BadAt n) out .answer) × (out ≡ textTo (BadAt n) out .bytes)
+  pub bad-no : length out < r → {a : Answer} → a ≡ Refused 8 0 0 → Promised (textTo (BadAt n) out) a out
   unfolding textOf
-  bad-no h f = written-no (BadAt n) out (omega arith) f
+  bad-no h f = text-promised (BadAt n) out (written-no (BadAt n) out (omega arith) f)
 
   pub bad-all : r ≤ length out → {done : List ℕ} → done ≡ laidAt 0 (badLine n) out
-      → (Done r false 0 ≡ textTo (BadAt n) out .answer) × (done ≡ textTo (BadAt n) out .bytes)
+      → Promised (textTo (BadAt n) out) (Done r false 0) done
   unfolding textOf endingAnswer
-  bad-all h f = let w = written-all (BadAt n) out (omega arith) in (ap (λ (k : ℕ). Done k false 0) e ∙ w .0, f ∙ w .1)
+  bad-all h f =
+      let w = written-all (BadAt n) out (omega arith) in
+      text-promised (BadAt n) out (ap (λ (k : ℕ). Done k false 0) e ∙ w .0, f ∙ w .1)
 
 module _ (os : List MaybeList) (out : List ℕ) {r : ℕ} (e : r ≡ length (listing os)) where
-  pub listed-no : length out < r → {a : Answer} → a ≡ Refused 8 0 0 → (a ≡ textTo (Listed os) out .answer) × (out ≡ textTo (Listed os) out .bytes)
+  pub listed-no : length out < r → {a : Answer} → a ≡ Refused 8 0 0 → Promised (textTo (Listed os) out) a out
   unfolding textOf
-  listed-no h f = written-no (Listed os) out (omega arith) f
+  listed-no h f = text-promised (Listed os) out (written-no (Listed os) out (omega arith) f)
 
   pub listed-all : r ≤ length out → {n : ℕ} {done : List ℕ} → n ≡ length os → done ≡ laidAt 0 (listing os) out
-      → (Done r true n ≡ textTo (Listed os) out .answer) × (done ≡ textTo (Listed os) out .bytes)
+      → Promised (textTo (Listed os) out) (Done r true n) done
   unfolding textOf endingAnswer
-  listed-all h g f = let w = written-all (Listed os) out (omega arith) in (rw (e, g) (w .0), f ∙ w .1)
+  listed-all h g f =
+      let w = written-all (Listed os) out (omega arith) in
+      text-promised (Listed os) out (rw (e, g) (w .0), f ∙ w .1)
 
 -- ---- a room's listing, by what the tree answers of its counts
 
@@ -148,14 +170,13 @@ counts-done r {n} {k} {is} e = by (formed r) refl
     by false f = let g = rw f at e in let z : _≡_ {A = ℕ} 0 1 = cc in absurd (omega arith)
 
 pub listing-done : (r out : List ℕ) → formed r ≡ true → {a : Answer} {done : List ℕ}
-    → (a ≡ textTo (Listed (listsIn r)) out .answer) × (done ≡ textTo (Listed (listsIn r)) out .bytes)
-    → (a ≡ listingTo r out .answer) × (done ≡ listingTo r out .bytes)
+    → Promised (textTo (Listed (listsIn r)) out) a done → Promised (listingTo r out) a done
 unfolding listingTo need
 listing-done r out f w = rw f w
 
-pub listing-refused : (r out : List ℕ) {k w at : ℕ} → countsTo r ≡ Refused k w at → (Refused k w at ≡ listingTo r out .answer) × (out ≡ listingTo r out .bytes)
+pub listing-refused : (r out : List ℕ) {k w at : ℕ} → countsTo r ≡ Refused k w at → Promised (listingTo r out) (Refused k w at) out
 unfolding countsTo listingTo need
-listing-refused r out {k} {w} {at} e = by (formed r) refl
+listing-refused r out {k} {w} {at} e = promised (listingTo r out) (listing-numbered r out) (by (formed r) refl)
   where
     by : (b : Bool) → formed r ≡ b → (Refused k w at ≡ listingTo r out .answer) × (out ≡ listingTo r out .bytes)
     by true f = let g = rw f at e in let z : _≡_ {A = ℕ} 0 1 = cc in absurd (omega arith)

@@ -21,7 +21,7 @@ use Rattle.tree.specs.declared.Answer.{Answer}
 use Rattle.tree.specs.Room.{emptyRoom}
 use Rattle.tree.specs.Formed.{formed}
 use Rattle.list.specs.Order.{need}
-use Rattle.tree.specs.Calls.{readableTo, startOk, startTo}
+use Rattle.tree.specs.Calls.{Promised, readableTo, startOk, startTo}
 use Rattle.tree.proofs.Lays.{length-settings}
 use Rattle.tree.proofs.Modelled.{objects-length}
 use Rattle.tree.proofs.Played.{accepted}
@@ -114,18 +114,16 @@ unfolding scriptHeadOk
 head-long s h = leb-true 5 (length s) (both-true (leb 5 (length s)) _ h .0)
 
 -- what is written for the ending is what the script writes
-plays : (s : List ℕ) (e : Ending) (out : List ℕ) (a : Answer) (done : List ℕ) → endingOf s ≡ e → (a ≡ textTo e out .answer) × (done ≡ textTo e out .bytes)
-    → (a ≡ playTo s out .answer) × (done ≡ playTo s out .bytes)
+plays : (s : List ℕ) (e : Ending) (out : List ℕ) (a : Answer) (done : List ℕ) → endingOf s ≡ e → Promised (textTo e out) a done → Promised (playTo s out) a done
 unfolding playTo
 plays s e out a done h w = rw h w
 
 -- a wrong head
-pub plays-head : (s out : List ℕ) (a : Answer) (done : List ℕ) → scriptHeadOk s ≡ false → (a ≡ textTo (BadAt 0) out .answer) × (done ≡ textTo (BadAt 0) out .bytes)
-    → (a ≡ playTo s out .answer) × (done ≡ playTo s out .bytes)
+pub plays-head : (s out : List ℕ) (a : Answer) (done : List ℕ) → scriptHeadOk s ≡ false → Promised (textTo (BadAt 0) out) a done → Promised (playTo s out) a done
 unfolding endingOf
 plays-head s out a done h w = plays s (BadAt 0) out a done (rw h refl) w
 
--- the records of s were playedOn: so many bytes of them were whole, and left the room so
+-- the records of s were played: so many bytes of them were whole, and left the room so
 pub record Ran (s : List ℕ) (used : ℕ) (room : List ℕ) : Type 0 where
   pub head : scriptHeadOk s ≡ true
   pub bytes : used ≡ runOf (drop 5 s) fresh .used
@@ -144,13 +142,11 @@ module _ (s : List ℕ) (used : ℕ) (room : List ℕ) (x : Ran s used room) whe
   ran-within = omega (arith, x .bytes, run-used (drop 5 s) fresh, length-drop 5 s, head-long s (x .head))
 
   module _ (out : List ℕ) (a : Answer) (done : List ℕ) where
-    pub plays-bad : 5 + used < length s → (a ≡ textTo (BadAt (5 + used)) out .answer) × (done ≡ textTo (BadAt (5 + used)) out .bytes)
-        → (a ≡ playTo s out .answer) × (done ≡ playTo s out .bytes)
+    pub plays-bad : 5 + used < length s → Promised (textTo (BadAt (5 + used)) out) a done → Promised (playTo s out) a done
     unfolding endingAfter endingOf
     plays-bad l w = plays s (BadAt (5 + used)) out a done (rw (x .head, ← x .bytes, ne-eqb (5 + used) (length s) (λ q. omega arith)) refl) w
 
-    pub plays-whole : length s ≤ 5 + used → (a ≡ listingTo room out .answer) × (done ≡ listingTo room out .bytes)
-        → (a ≡ playTo s out .answer) × (done ≡ playTo s out .bytes)
+    pub plays-whole : length s ≤ 5 + used → Promised (listingTo room out) a done → Promised (playTo s out) a done
     unfolding endingAfter endingOf listingTo need
     plays-whole l w =
         let q : 5 + used ≡ length s = omega (arith, ran-within) in

@@ -64,7 +64,7 @@ pub record Stage : Type 0 where
 unfoldable pub ahead : ℕ → List ℕ → Run → Stage
 ahead at t f = record { at = at + f .used; left = drop (f .used) t; bad = f .bad; room = f .room }
 
--- once a record is bad nothing more is playedOn
+-- once a record is bad nothing more is played
 unfoldable pub onPiece : Stage → List ℕ → Stage
 onPiece g p = cond (g .bad) (record { at = g .at; left = g .left ++ p; bad = true; room = g .room }) (ahead (g .at) (g .left ++ p) (runOf (g .left ++ p) (g .room)))
 

@@ -1,4 +1,4 @@
--- A whole script, playedOn in a room of its own.
+-- A whole script, played in a room of its own (RULES 6.4 to 6.9).
 use Prim.Native.Nat.{ℕ, _+_}
 use mathlib.Core.List.{List}
 use mathlib.Core.Bool.{Bool, true, false, cond, _&&_}
@@ -46,7 +46,7 @@ pub data Ending : Type 0 where
 unfoldable pub endingAfter : ℕ → Run → Ending
 endingAfter n f = cond (eqb (5 + f .used) n) (Listed (listsIn (f .room))) (BadAt (5 + f .used))
 
--- the room that a script is playedOn in
+-- the room that a script is played in
 unfoldable pub fresh : List ℕ
 fresh = beginTo (replicate 55400 0) .bytes
 

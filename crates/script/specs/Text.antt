@@ -1,4 +1,4 @@
--- The program's text, in ASCII: the listing, or the line that says where a script is bad.
+-- The program's text (RULES 6.3, 6.6), in ASCII: the listing, or the line that says where a script is bad.
 use Prim.Native.Nat.{ℕ, zero, suc, _+_, _/_, _%_}
 use mathlib.Core.List.{List, [], _∷_, _++_}
 use mathlib.Core.Bool.{Bool, true, false, cond}

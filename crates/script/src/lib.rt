@@ -1,6 +1,7 @@
 // Plays scripts on a tree of objects: one record, records one after another, the listing's text, a whole script.
 ghost use mathlib.Core.Path.{_≡_};
 ghost use lib.ListN.{length};
+ghost use Rattle.tree.specs.Calls.{Promised};
 ghost use Rattle.script.specs.Play.{scriptHeadOk, beginTo, playTo};
 use inherit::Mapping;
 use list::byte_in;
@@ -43,7 +44,7 @@ pub fn head_ok(script: &[u8]) -> bool
 
 // Starts a script's tree: limits 16 and 16, rule 2, its mapping and no default (RULES 6.4).
 pub fn begin(room: &mut [u8]) -> Answer
-    ensures { λ a. ⌜ (a ≡ beginTo (now (room .entry)) .answer) × (now (room .exit) ≡ beginTo (now (room .entry)) .bytes) ⌝ }
+    ensures { λ a. ⌜ Promised (beginTo (now (room .entry))) a (now (room .exit)) ⌝ }
 {
     tree::start(
         room,
@@ -64,7 +65,7 @@ pub fn begin(room: &mut [u8]) -> Answer
 // Plays a whole script in a room of 55,400 bytes, whatever it held.
 fn play_in(room: &mut [u8], script: &[u8], out: &mut [u8]) -> Answer
     requires { ⌜ length (now room) ≡ 55400 ⌝ }
-    ensures { λ a. ⌜ (a ≡ playTo (now (script .entry)) (now (out .entry)) .answer) × (now (out .exit) ≡ playTo (now (script .entry)) (now (out .entry)) .bytes) ⌝ }
+    ensures { λ a. ⌜ Promised (playTo (now (script .entry)) (now (out .entry))) a (now (out .exit)) ⌝ }
 {
     if !head_ok(script) {
         return bad_at(0, out);
@@ -80,7 +81,7 @@ fn play_in(room: &mut [u8], script: &[u8], out: &mut [u8]) -> Answer
 
 // Plays a whole script in a room of its own and writes the program's text.
 pub fn play(script: &[u8], out: &mut [u8]) -> Answer
-    ensures { λ a. ⌜ (a ≡ playTo (now (script .entry)) (now (out .entry)) .answer) × (now (out .exit) ≡ playTo (now (script .entry)) (now (out .entry)) .bytes) ⌝ }
+    ensures { λ a. ⌜ Promised (playTo (now (script .entry)) (now (out .entry))) a (now (out .exit)) ⌝ }
 {
     let mut room = [0u8; ROOM];
     play_in(&mut room, script, out)

@@ -3,7 +3,7 @@ ghost use mathlib.Core.Path.{_≡_};
 ghost use Prim.Native.Nat.{_+_, _≤_};
 ghost use lib.ListN.{getD};
 ghost use Rattle.tree.specs.Shown.{undo, callOn};
-ghost use Rattle.tree.specs.Calls.{list as Edit·list, owners as Edit·owners, addTo, alterTo};
+ghost use Rattle.tree.specs.Calls.{Promised, list as Edit·list, owners as Edit·owners, addTo, alterTo};
 ghost use Rattle.script.specs.Record.{nameIn, nameEnd, listIn, listEnd, flagOk, flag as Record·flag, parentNamed, recordSize, formOk, newIn, recordAsks, stepOf};
 use list::byte_in;
 use list::guid_at;
@@ -120,7 +120,7 @@ fn parent_of(b: u8) -> u32
 
 // Record 1.
 fn add(room: &mut [u8], t: &[u8]) -> Answer
-    ensures { λ a. ⌜ (a ≡ addTo (newIn (now (t .entry))) (now (room .entry)) .answer) × (now (room .exit) ≡ addTo (newIn (now (t .entry))) (now (room .entry)) .bytes) ⌝ }
+    ensures { λ a. ⌜ Promised (addTo (newIn (now (t .entry))) (now (room .entry))) a (now (room .exit)) ⌝ }
 {
     let group_at = name_end(t, 20);
     let list_at = name_end(t, group_at);
@@ -140,7 +140,7 @@ fn add(room: &mut [u8], t: &[u8]) -> Answer
 
 // Record 2.
 fn set_list(room: &mut [u8], t: &[u8]) -> Answer
-    ensures { λ a. ⌜ (a ≡ alterTo (getD (now (t .entry)) 1 0) (Edit·list (listIn 2 (now (t .entry)))) (now (room .entry)) .answer) × (now (room .exit) ≡ alterTo (getD (now (t .entry)) 1 0) (Edit·list (listIn 2 (now (t .entry)))) (now (room .entry)) .bytes) ⌝ }
+    ensures { λ a. ⌜ Promised (alterTo (getD (now (t .entry)) 1 0) (Edit·list (listIn 2 (now (t .entry)))) (now (room .entry))) a (now (room .exit)) ⌝ }
 {
     let n = half_in(t, 2);
     tree::set_list(
@@ -153,7 +153,7 @@ fn set_list(room: &mut [u8], t: &[u8]) -> Answer
 
 // Record 4.
 fn set_owner(room: &mut [u8], t: &[u8]) -> Answer
-    ensures { λ a. ⌜ (a ≡ alterTo (getD (now (t .entry)) 1 0) (Edit·owners (nameIn 2 (now (t .entry))) (nameIn (nameEnd 2 (now (t .entry))) (now (t .entry)))) (now (room .entry)) .answer) × (now (room .exit) ≡ alterTo (getD (now (t .entry)) 1 0) (Edit·owners (nameIn 2 (now (t .entry))) (nameIn (nameEnd 2 (now (t .entry))) (now (t .entry)))) (now (room .entry)) .bytes) ⌝ }
+    ensures { λ a. ⌜ Promised (alterTo (getD (now (t .entry)) 1 0) (Edit·owners (nameIn 2 (now (t .entry))) (nameIn (nameEnd 2 (now (t .entry))) (now (t .entry)))) (now (room .entry))) a (now (room .exit)) ⌝ }
 {
     let group_at = name_end(t, 2);
     tree::set_owner(
@@ -166,7 +166,7 @@ fn set_owner(room: &mut [u8], t: &[u8]) -> Answer
 
 // What a whole record asks of the tree.
 pub(crate) fn carry_out(room: &mut [u8], t: &[u8]) -> Answer
-    ensures { λ a. ⌜ (a ≡ callOn (recordAsks (now (t .entry))) (now (room .entry)) .answer) × (now (room .exit) ≡ callOn (recordAsks (now (t .entry))) (now (room .entry)) .bytes) ⌝ }
+    ensures { λ a. ⌜ Promised (callOn (recordAsks (now (t .entry))) (now (room .entry))) a (now (room .exit)) ⌝ }
 {
     let number = byte_in(t, 0);
     if number == 1 {

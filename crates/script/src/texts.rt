@@ -12,6 +12,7 @@ ghost use Rattle.tree.specs.Held.{held};
 ghost use Rattle.tree.specs.declared.Answer.the-variants.{Refused as Answer·Refused};
 ghost use Rattle.script.specs.Text.{decimal as Text·decimal, line, listing as Text·listing, badLine, newline, columnsBy};
 ghost use Rattle.script.specs.Inner.Laying.{laidAt};
+ghost use Rattle.tree.specs.Calls.{Promised};
 ghost use Rattle.script.specs.Play.{Listed as Ending·Listed, BadAt as Ending·BadAt, textTo, listingTo};
 use tree::Answer;
 
@@ -109,7 +110,7 @@ fn lay_listing(room: &[u8], n: usize, out: &mut [u8]) -> usize
 // Measures the listing, and writes it where there is room.
 fn give_listing(room: &[u8], n: u16, out: &mut [u8]) -> Answer
     requires { ⌜ (formed (now room) ≡ true) × (n ≡ objects (now room)) ⌝ }
-    ensures { λ a. ⌜ (a ≡ textTo (Ending·Listed (listsIn (now (room .entry)))) (now (out .entry)) .answer) × (now (out .exit) ≡ textTo (Ending·Listed (listsIn (now (room .entry)))) (now (out .entry)) .bytes) ⌝ }
+    ensures { λ a. ⌜ Promised (textTo (Ending·Listed (listsIn (now (room .entry)))) (now (out .entry))) a (now (out .exit)) ⌝ }
 {
     let long = lay_listing(room, n as usize, &mut [0u8; 1]);
     if out.len() < long {
@@ -136,7 +137,7 @@ fn no_room() -> Answer
 
 // Writes a tree's listing.
 pub fn listing(room: &[u8], out: &mut [u8]) -> Answer
-    ensures { λ a. ⌜ (a ≡ listingTo (now (room .entry)) (now (out .entry)) .answer) × (now (out .exit) ≡ listingTo (now (room .entry)) (now (out .entry)) .bytes) ⌝ }
+    ensures { λ a. ⌜ Promised (listingTo (now (room .entry)) (now (out .entry))) a (now (out .exit)) ⌝ }
 {
     match tree::counts(room) {
         Answer::Done {
@@ -167,7 +168,7 @@ fn lay_bad(n: u64, out: &mut [u8]) -> usize
 
 // Writes the line that says where a script is bad.
 pub fn bad_at(n: u64, out: &mut [u8]) -> Answer
-    ensures { λ a. ⌜ (a ≡ textTo (Ending·BadAt n) (now (out .entry)) .answer) × (now (out .exit) ≡ textTo (Ending·BadAt n) (now (out .entry)) .bytes) ⌝ }
+    ensures { λ a. ⌜ Promised (textTo (Ending·BadAt n) (now (out .entry))) a (now (out .exit)) ⌝ }
 {
     let long = lay_bad(n, &mut [0u8; 1]);
     if out.len() < long {

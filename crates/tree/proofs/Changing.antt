@@ -21,11 +21,12 @@ use Rattle.tree.specs.Held.{New, held, blockFor}
 use Rattle.tree.specs.Room.{objectLimit, objects, keptSteps, ownAt, ownData, slot, step, stepObject, area}
 use Rattle.tree.specs.Formed.{Head, standing, formed}
 use Rattle.list.specs.Order.{need}
-use Rattle.tree.specs.Calls.{Outcome, refuse, readableTo, toldAs, popped, reworkedWith, changed, latest, stepTakenBack, changeEnds, undoEnds, Edit}
+use Rattle.tree.specs.Calls.{Promised, Outcome, refuse, readableTo, toldAs, popped, reworkedWith, changed, latest, stepTakenBack, changeEnds, undoEnds, Edit}
 use Rattle.tree.specs.Calls.{list, mark, owners, editAt, editBytes, tested, addTo, alterTo, undoTo}
 use Rattle.tree.specs.Inner.Faults.{objectFault, addFault, faultOf}
 use Rattle.tree.proofs.Tested.{head-says, Forms, formed-parts, standing-most}
 use Rattle.tree.proofs.Applied.{Adds, Again, step-facts, steps-off}
+use Rattle.tree.proofs.Numbers.{add-promised, alter-promised, undo-promised}
 use Rattle.tree.proofs.Answered.{settle, need-yes, need-no, formed-head, readable-good, readable-bad, on-object-good, on-object-bad}
 use Rattle.tree.proofs.Answered.{object-facts, add-good, add-bad, add-facts}
 use Rattle.tree.proofs.Areas.{area-byte, area-step}
@@ -137,9 +138,9 @@ module _ (o : MaybeList) (r : List ℕ) (f : Fault) (e : f ≡ faultOf o) where
 -- ---- what such a change answers
 
 module _ (i : ℕ) (e : Edit) (r : List ℕ) (k : ℕ) (q : k ≡ objectFault r i) where
-  pub alter-no : (a : Answer) → (k ≡ 0 → ⊥) → a ≡ Refused k 0 0 → (a ≡ alterTo i e r .answer) × (r ≡ alterTo i e r .bytes)
+  pub alter-no : (a : Answer) → (k ≡ 0 → ⊥) → a ≡ Refused k 0 0 → Promised (alterTo i e r) a r
   unfolding alterTo
-  alter-no a n f = settle (on-object-bad r i r _ (λ z. n (q ∙ z))) (f ∙ ap (λ (j : ℕ). Refused j 0 0) q) refl
+  alter-no a n f = alter-promised r i e (settle (on-object-bad r i r _ (λ z. n (q ∙ z))) (f ∙ ap (λ (j : ℕ). Refused j 0 0) q) refl)
 
   module _ (z : k ≡ 0) where
     alter-goes : alterTo i e r ≡ tested e r (changeEnds i r (changed 2 i (editAt e) (editBytes e) (objects r) (area r)))
@@ -147,13 +148,13 @@ module _ (i : ℕ) (e : Edit) (r : List ℕ) (k : ℕ) (q : k ≡ objectFault r 
     alter-goes = on-object-good r i r _ (sym q ∙ z)
 
     pub alter-refused : (a : Answer) (j which at : ℕ) → ((rest : Outcome) → tested e r rest ≡ refuse j which at r) → a ≡ Refused j which at
-        → (a ≡ alterTo i e r .answer) × (r ≡ alterTo i e r .bytes)
-    alter-refused a j which at t f = settle (alter-goes ∙ t _) f refl
+        → Promised (alterTo i e r) a r
+    alter-refused a j which at t f = alter-promised r i e (settle (alter-goes ∙ t _) f refl)
 
     pub alter-done : (n at : ℕ) (b r₁ : List ℕ) (a : Answer) → ((rest : Outcome) → tested e r rest ≡ rest) → n ≡ objects r → at ≡ editAt e → b ≡ editBytes e
         → (a ≡ changeEnds i r (changed 2 i at b n (area r)) .answer) × (r₁ ≡ changeEnds i r (changed 2 i at b n (area r)) .bytes)
-        → (a ≡ alterTo i e r .answer) × (r₁ ≡ alterTo i e r .bytes)
-    alter-done n at b r₁ a t en ea eb h = settle (alter-goes ∙ t _ ∙ rw (en, ea, eb)) (h .0) (h .1)
+        → Promised (alterTo i e r) a r₁
+    alter-done n at b r₁ a t en ea eb h = alter-promised r i e (settle (alter-goes ∙ t _ ∙ rw (en, ea, eb)) (h .0) (h .1))
 
 -- what the change asks of the room
 pub alter-asks : (r : List ℕ) (i k n : ℕ) → k ≡ objectFault r i → k ≡ 0 → n ≡ objects r → Head r × ((i < objectLimit r) × (n ≤ objectLimit r))
@@ -165,9 +166,9 @@ alter-asks r i k n q z e =
 -- ---- what add answers
 
 module _ (new : New) (r : List ℕ) (k : ℕ) (q : k ≡ addFault r (new .parent)) where
-  pub add-no : (a : Answer) → (k ≡ 0 → ⊥) → a ≡ Refused k 0 0 → (a ≡ addTo new r .answer) × (r ≡ addTo new r .bytes)
+  pub add-no : (a : Answer) → (k ≡ 0 → ⊥) → a ≡ Refused k 0 0 → Promised (addTo new r) a r
   unfolding addTo
-  add-no a n f = settle (add-bad r (new .parent) r _ (λ z. n (q ∙ z))) (f ∙ ap (λ (j : ℕ). Refused j 0 0) q) refl
+  add-no a n f = add-promised r new (settle (add-bad r (new .parent) r _ (λ z. n (q ∙ z))) (f ∙ ap (λ (j : ℕ). Refused j 0 0) q) refl)
 
   module _ (z : k ≡ 0) where
     add-goes : addTo new r
@@ -180,8 +181,8 @@ module _ (new : New) (r : List ℕ) (k : ℕ) (q : k ≡ addFault r (new .parent
     add-goes = add-good r (new .parent) r _ (sym q ∙ z)
 
     module _ (f : Fault) (e : f ≡ faultOf (new .list)) where
-      pub add-list : (f .number ≡ 0 → ⊥) → (Refused (f .number) 2 (f .offset) ≡ addTo new r .answer) × (r ≡ addTo new r .bytes)
-      add-list h = settle (add-goes ∙ readable-bad (new .list) 2 r _ (rw e at h)) (rw e refl) refl
+      pub add-list : (f .number ≡ 0 → ⊥) → Promised (addTo new r) (Refused (f .number) 2 (f .offset)) r
+      add-list h = add-promised r new (settle (add-goes ∙ readable-bad (new .list) 2 r _ (rw e at h)) (rw e refl) refl)
 
       module _ (h : f .number ≡ 0) where
         add-reads : addTo new r
@@ -191,21 +192,21 @@ module _ (new : New) (r : List ℕ) (k : ℕ) (q : k ≡ addFault r (new .parent
             (changeEnds (objects r) r (changed 1 (objects r) 0 (blockFor new) (objects r + 1) (area r)))))
         add-reads = add-goes ∙ readable-good (new .list) 2 r _ (rw e at h)
 
-        pub add-owner : (a : Answer) → ordinary (new .owner) ≡ false → a ≡ Refused 6 0 0 → (a ≡ addTo new r .answer) × (r ≡ addTo new r .bytes)
-        add-owner a o t = settle (add-reads ∙ need-no 6 r _ o) t refl
+        pub add-owner : (a : Answer) → ordinary (new .owner) ≡ false → a ≡ Refused 6 0 0 → Promised (addTo new r) a r
+        add-owner a o t = add-promised r new (settle (add-reads ∙ need-no 6 r _ o) t refl)
 
         module _ (o : ordinary (new .owner) ≡ true) where
-          pub add-group : (a : Answer) → ordinary (new .group) ≡ false → a ≡ Refused 6 0 0 → (a ≡ addTo new r .answer) × (r ≡ addTo new r .bytes)
-          add-group a g t = settle (add-reads ∙ need-yes 6 r _ o ∙ need-no 6 r _ g) t refl
+          pub add-group : (a : Answer) → ordinary (new .group) ≡ false → a ≡ Refused 6 0 0 → Promised (addTo new r) a r
+          add-group a g t = add-promised r new (settle (add-reads ∙ need-yes 6 r _ o ∙ need-no 6 r _ g) t refl)
 
           module _ (g : ordinary (new .group) ≡ true) where
-            pub add-long : (a : Answer) → shortIf (new .list) ≡ false → a ≡ Refused 8 0 0 → (a ≡ addTo new r .answer) × (r ≡ addTo new r .bytes)
-            add-long a s t = settle (add-reads ∙ need-yes 6 r _ o ∙ need-yes 6 r _ g ∙ need-no 8 r _ s) t refl
+            pub add-long : (a : Answer) → shortIf (new .list) ≡ false → a ≡ Refused 8 0 0 → Promised (addTo new r) a r
+            add-long a s t = add-promised r new (settle (add-reads ∙ need-yes 6 r _ o ∙ need-yes 6 r _ g ∙ need-no 8 r _ s) t refl)
 
             pub add-done : (n : ℕ) (b r₁ : List ℕ) (a : Answer) → shortIf (new .list) ≡ true → n ≡ objects r → b ≡ blockFor new
                 → (a ≡ changeEnds n r (changed 1 n 0 b (n + 1) (area r)) .answer) × (r₁ ≡ changeEnds n r (changed 1 n 0 b (n + 1) (area r)) .bytes)
-                → (a ≡ addTo new r .answer) × (r₁ ≡ addTo new r .bytes)
-            add-done n b r₁ a s en eb t = settle (add-reads ∙ need-yes 6 r _ o ∙ need-yes 6 r _ g ∙ need-yes 8 r _ s ∙ rw (en, eb)) (t .0) (t .1)
+                → Promised (addTo new r) a r₁
+            add-done n b r₁ a s en eb t = add-promised r new (settle (add-reads ∙ need-yes 6 r _ o ∙ need-yes 6 r _ g ∙ need-yes 8 r _ s ∙ rw (en, eb)) (t .0) (t .1))
 
 -- what the change asks of the room
 pub add-asks : (r : List ℕ) (p k n : ℕ) → k ≡ addFault r p → k ≡ 0 → n ≡ objects r → Head r × ((n < objectLimit r) × (n + 1 ≤ objectLimit r))
@@ -215,14 +216,14 @@ add-asks r p k n q z e =
 
 -- ---- what undo answers
 
-pub undo-13 : (r : List ℕ) (a : Answer) → formed r ≡ false → a ≡ Refused 13 0 0 → (a ≡ undoTo r .answer) × (r ≡ undoTo r .bytes)
+pub undo-13 : (r : List ℕ) (a : Answer) → formed r ≡ false → a ≡ Refused 13 0 0 → Promised (undoTo r) a r
 unfolding undoTo
-undo-13 r a f t = settle (need-no 13 r _ f) t refl
+undo-13 r a f t = undo-promised r (settle (need-no 13 r _ f) t refl)
 
 module _ (r : List ℕ) (k : ℕ) (f : formed r ≡ true) (q : k ≡ keptSteps r) where
-  pub undo-11 : (a : Answer) → k ≡ 0 → a ≡ Refused 11 0 0 → (a ≡ undoTo r .answer) × (r ≡ undoTo r .bytes)
+  pub undo-11 : (a : Answer) → k ≡ 0 → a ≡ Refused 11 0 0 → Promised (undoTo r) a r
   unfolding undoTo
-  undo-11 a z t = settle (need-yes 13 r _ f ∙ need-no 11 r _ (le-ltb 0 (keptSteps r) (omega arith))) t refl
+  undo-11 a z t = undo-promised r (settle (need-yes 13 r _ f ∙ need-no 11 r _ (le-ltb 0 (keptSteps r) (omega arith))) t refl)
 
   module _ (z : k ≡ 0 → ⊥) where
     some-kept : 0 < keptSteps r
@@ -232,6 +233,6 @@ module _ (r : List ℕ) (k : ℕ) (f : formed r ≡ true) (q : k ≡ keptSteps r
     undo-asks = (formed-head r f, (some-kept, latest-within r f some-kept))
 
     pub undo-done : (r₁ : List ℕ) (a : Answer) → (a ≡ undoEnds r (stepTakenBack (area r)) .answer) × (r₁ ≡ undoEnds r (stepTakenBack (area r)) .bytes)
-        → (a ≡ undoTo r .answer) × (r₁ ≡ undoTo r .bytes)
+        → Promised (undoTo r) a r₁
     unfolding undoTo
-    undo-done r₁ a h = settle (need-yes 13 r _ f ∙ need-yes 11 r _ (lt-ltb 0 (keptSteps r) some-kept)) (h .0) (h .1)
+    undo-done r₁ a h = undo-promised r (settle (need-yes 13 r _ f ∙ need-yes 11 r _ (lt-ltb 0 (keptSteps r) some-kept)) (h .0) (h .1))

@@ -1,10 +1,11 @@
 -- What each call answers, and what the lent bytes hold afterwards, for any bytes handed in.
 use Prim.Native.Nat.{ℕ, _+_, _-_, _*_, min}
+use mathlib.Core.Path.{_≡_}
 use mathlib.Core.List.{List, [], _∷_, _++_}
-use mathlib.Core.Bool.{Bool, true, false, cond, _&&_}
+use mathlib.Core.Bool.{Bool, true, false, not, cond, _&&_}
 use mathlib.Core.Option.{Option, none, some}
 use lib.ListN.{length, set}
-use lib.Dec.{leb, ltb}
+use lib.Dec.{eqb, leb, ltb}
 use Rattle.list.specs.Order.{need}
 use Rattle.list.specs.Bytes.{part, putAt, front}
 use Rattle.list.specs.Entry.{access}
@@ -28,10 +29,25 @@ abbrev pub answerValues : Answer → Values
 answerValues (Done len is n) = done len (yes is) n 0
 answerValues (Refused k which at) = refused k which at
 
+-- a refusal, and no answer that is done
+abbrev pub isRefused : Answer → Bool
+isRefused (Done len is n) = false
+isRefused (Refused k which at) = true
+
+-- the answer a has the values v: it is a refusal where their number isn't 0
+pub record Says (a : Answer) (v : Values) : Type 0 where
+  pub values : answerValues a ≡ v
+  pub refuses : isRefused a ≡ not (eqb (v .number) 0)
+
 -- the answer, and what the lent bytes hold afterwards
 pub record Outcome : Type 0 where
   pub answer : Answer
   pub bytes : List ℕ
+
+-- the promise of a call that comes to o: the values of its answer, and the lent bytes afterwards
+pub record Promised (o : Outcome) (a : Answer) (after : List ℕ) : Type 0 where
+  pub answer : Says a (answerValues (o .answer))
+  pub bytes : after ≡ o .bytes
 
 -- a refusal leaves the bytes as they were
 abbrev pub refuse : ℕ → ℕ → ℕ → List ℕ → Outcome

@@ -8,7 +8,7 @@ ghost use Rattle.inherit.specs.Asked.{lent};
 ghost use Rattle.tree.specs.Model.{shortIf as Calls·short};
 ghost use Rattle.tree.specs.Held.{held};
 ghost use Rattle.tree.specs.Room.{roomFor, roomOf, emptyRoom};
-ghost use Rattle.tree.specs.Calls.{list as Edit·list, mark as Edit·mark, owners as Edit·owners, toldAs as Calls·told, startOk, listBytes, dataOf, copied, startTo, addTo, alterTo, undoTo, listTo, ownTo, dataTo, countsTo};
+ghost use Rattle.tree.specs.Calls.{Says, Promised, answerValues, list as Edit·list, mark as Edit·mark, owners as Edit·owners, toldAs as Calls·told, startOk, listBytes, dataOf, copied, startTo, addTo, alterTo, undoTo, listTo, ownTo, dataTo, countsTo};
 ghost use Rattle.tree.specs.declared.Answer.the-variants.{Done as Answer·Done, Refused as Answer·Refused};
 use changes::change;
 use changes::take_back;
@@ -153,7 +153,7 @@ pub fn start(
     has: bool,
     default: &[u8],
 ) -> Answer
-    ensures { λ a. ⌜ (a ≡ startTo objects steps rule mapping (lent has (now (default .entry))) (now (room .entry)) .answer) × (now (room .exit) ≡ startTo objects steps rule mapping (lent has (now (default .entry))) (now (room .entry)) .bytes) ⌝ }
+    ensures { λ a. ⌜ Promised (startTo objects steps rule mapping (lent has (now (default .entry))) (now (room .entry))) a (now (room .exit)) ⌝ }
 {
     if !start_ok(objects, steps, rule, room.len()) {
         return refused(12);
@@ -193,7 +193,7 @@ pub fn add(
     has: bool,
     list: &[u8],
 ) -> Answer
-    ensures { λ a. ⌜ (a ≡ addTo (record { parent = parent; container = container; mark = mark; type = kind; owner = now (owner .entry); group = now (group .entry); list = lent has (now (list .entry)) }) (now (room .entry)) .answer) × (now (room .exit) ≡ addTo (record { parent = parent; container = container; mark = mark; type = kind; owner = now (owner .entry); group = now (group .entry); list = lent has (now (list .entry)) }) (now (room .entry)) .bytes) ⌝ }
+    ensures { λ a. ⌜ Promised (addTo (record { parent = parent; container = container; mark = mark; type = kind; owner = now (owner .entry); group = now (group .entry); list = lent has (now (list .entry)) }) (now (room .entry))) a (now (room .exit)) ⌝ }
 {
     let k = add_fault(room, parent as usize);
     if k != 0 {
@@ -234,7 +234,7 @@ pub fn add(
 
 // Sets an object's own list, or removes it.
 pub fn set_list(room: &mut [u8], object: u32, has: bool, list: &[u8]) -> Answer
-    ensures { λ a. ⌜ (a ≡ alterTo object (Edit·list (lent has (now (list .entry)))) (now (room .entry)) .answer) × (now (room .exit) ≡ alterTo object (Edit·list (lent has (now (list .entry)))) (now (room .entry)) .bytes) ⌝ }
+    ensures { λ a. ⌜ Promised (alterTo object (Edit·list (lent has (now (list .entry)))) (now (room .entry))) a (now (room .exit)) ⌝ }
 {
     let i = object as usize;
     let k = object_fault(room, i);
@@ -260,7 +260,7 @@ pub fn set_list(room: &mut [u8], object: u32, has: bool, list: &[u8]) -> Answer
 
 // Sets an object's protected mark.
 pub fn set_mark(room: &mut [u8], object: u32, mark: bool) -> Answer
-    ensures { λ a. ⌜ (a ≡ alterTo object (Edit·mark mark) (now (room .entry)) .answer) × (now (room .exit) ≡ alterTo object (Edit·mark mark) (now (room .entry)) .bytes) ⌝ }
+    ensures { λ a. ⌜ Promised (alterTo object (Edit·mark mark) (now (room .entry))) a (now (room .exit)) ⌝ }
 {
     let i = object as usize;
     let k = object_fault(room, i);
@@ -274,7 +274,7 @@ pub fn set_mark(room: &mut [u8], object: u32, mark: bool) -> Answer
 
 // Sets an object's owner and group.
 pub fn set_owner(room: &mut [u8], object: u32, owner: &[u8], group: &[u8]) -> Answer
-    ensures { λ a. ⌜ (a ≡ alterTo object (Edit·owners (now (owner .entry)) (now (group .entry))) (now (room .entry)) .answer) × (now (room .exit) ≡ alterTo object (Edit·owners (now (owner .entry)) (now (group .entry))) (now (room .entry)) .bytes) ⌝ }
+    ensures { λ a. ⌜ Promised (alterTo object (Edit·owners (now (owner .entry)) (now (group .entry))) (now (room .entry))) a (now (room .exit)) ⌝ }
 {
     let i = object as usize;
     let k = object_fault(room, i);
@@ -295,7 +295,7 @@ pub fn set_owner(room: &mut [u8], object: u32, owner: &[u8], group: &[u8]) -> An
 
 // Takes off the latest change not yet undone.
 pub fn undo(room: &mut [u8]) -> Answer
-    ensures { λ a. ⌜ (a ≡ undoTo (now (room .entry)) .answer) × (now (room .exit) ≡ undoTo (now (room .entry)) .bytes) ⌝ }
+    ensures { λ a. ⌜ Promised (undoTo (now (room .entry))) a (now (room .exit)) ⌝ }
 {
     if !formed(room) {
         return refused(13);
@@ -323,7 +323,7 @@ fn give_list(s: &[u8], out: &mut [u8]) -> Answer
 
 // An object's computed list.
 pub fn list_of(room: &[u8], object: u32, out: &mut [u8]) -> Answer
-    ensures { λ a. ⌜ (a ≡ listTo object (now (room .entry)) (now (out .entry)) .answer) × (now (out .exit) ≡ listTo object (now (room .entry)) (now (out .entry)) .bytes) ⌝ }
+    ensures { λ a. ⌜ Promised (listTo object (now (room .entry)) (now (out .entry))) a (now (out .exit)) ⌝ }
 {
     let i = object as usize;
     let k = object_fault(room, i);
@@ -335,7 +335,7 @@ pub fn list_of(room: &[u8], object: u32, out: &mut [u8]) -> Answer
 
 // An object's own list.
 pub fn own_of(room: &[u8], object: u32, out: &mut [u8]) -> Answer
-    ensures { λ a. ⌜ (a ≡ ownTo object (now (room .entry)) (now (out .entry)) .answer) × (now (out .exit) ≡ ownTo object (now (room .entry)) (now (out .entry)) .bytes) ⌝ }
+    ensures { λ a. ⌜ Promised (ownTo object (now (room .entry)) (now (out .entry))) a (now (out .exit)) ⌝ }
 {
     let i = object as usize;
     let k = object_fault(room, i);
@@ -371,7 +371,7 @@ fn give_data(b: &[u8], out: &mut [u8]) -> Answer
 
 // An object's own data but for its list.
 pub fn data_of(room: &[u8], object: u32, out: &mut [u8]) -> Answer
-    ensures { λ a. ⌜ (a ≡ dataTo object (now (room .entry)) (now (out .entry)) .answer) × (now (out .exit) ≡ dataTo object (now (room .entry)) (now (out .entry)) .bytes) ⌝ }
+    ensures { λ a. ⌜ Promised (dataTo object (now (room .entry)) (now (out .entry))) a (now (out .exit)) ⌝ }
 {
     let i = object as usize;
     let k = object_fault(room, i);
@@ -383,7 +383,7 @@ pub fn data_of(room: &[u8], object: u32, out: &mut [u8]) -> Answer
 
 // How many objects stand, and how many steps are kept.
 pub fn counts(room: &[u8]) -> Answer
-    ensures { λ a. ⌜ a ≡ countsTo (now (room .entry)) ⌝ }
+    ensures { λ a. ⌜ Says a (answerValues (countsTo (now (room .entry)))) ⌝ }
 {
     if !formed(room) {
         return refused(13);

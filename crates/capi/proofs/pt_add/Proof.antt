@@ -1,7 +1,6 @@
 -- The tree's call, with the traits that the bits name; its answer in the eight places. Assumes nothing.
 use borrow.Author.Needs.{needs}
 use mathlib.Core.Path.{_≡_, ap, _∙_}
-use Rattle.tree.specs.declared.Answer.{Answer}
 use Rattle.tree.specs.Calls.{answerValues}
 use Rattle.capi.specs.Places.{placesOf}
 use mathlib.Core.Path.{refl}
@@ -48,8 +47,8 @@ returns c =
     let e = ap (λ (n : New). addTo n (now (a .room)))
     (traits-found (a .parent) (a .traits) _ _ _ (now (a .kind)) (now (a .owner)) (now (a .group)) (now (a .list))
     (kind .has .ensures) (mark .has2 .ensures) (k .before .has3 .ensures)) in (
-      c .put-answer .ensures ∙ ap (λ (x : Answer). placesOf (answerValues x)) (s .0 ∙ ap (λ (o : Outcome). o .answer) e),
-      s .1 ∙ ap (λ (o : Outcome). o .bytes) e,
+      c .put-answer .ensures ∙ ap placesOf (s .answer .values ∙ ap (λ (o : Outcome). answerValues (o .answer)) e),
+      s .bytes ∙ ap (λ (o : Outcome). o .bytes) e,
     )
 
 pub pt-add-spec : {M : Type 1} → statement M

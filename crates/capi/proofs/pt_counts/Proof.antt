@@ -1,8 +1,6 @@
 -- The tree's call, its answer in the eight places. Assumes nothing.
 use borrow.Author.Needs.{needs}
 use mathlib.Core.Path.{ap, _∙_}
-use Rattle.tree.specs.declared.Answer.{Answer}
-use Rattle.tree.specs.Calls.{answerValues}
 use Rattle.capi.specs.Places.{placesOf}
 use Rattle.capi.proofs.pt_counts.Statement.{statement}
 use Rattle.capi.proofs.pt_counts.Tie as tie
@@ -14,7 +12,7 @@ put-answer-requires : tie.Need-put-answer-requires
 put-answer-requires c κs = search needs
 
 returns : tie.Need-returns
-returns c = c .put-answer .ensures ∙ ap (λ (x : Answer). placesOf (answerValues x)) (c .before .counts .ensures)
+returns c = c .put-answer .ensures ∙ ap placesOf (c .before .counts .ensures .values)
 
 pub pt-counts-spec : {M : Type 1} → statement M
 pt-counts-spec = tie.close (tie.spec counts-requires put-answer-requires returns)

@@ -1,8 +1,6 @@
 -- The script's call, its answer in the eight places. Assumes nothing.
 use borrow.Author.Needs.{needs}
 use mathlib.Core.Path.{ap, _∙_}
-use Rattle.tree.specs.declared.Answer.{Answer}
-use Rattle.tree.specs.Calls.{answerValues}
 use Rattle.capi.specs.Places.{placesOf}
 use Rattle.capi.proofs.pt_play.Statement.{statement}
 use Rattle.capi.proofs.pt_play.Tie as tie
@@ -18,8 +16,8 @@ same-length c = search needs
 
 returns : tie.Need-returns
 returns c = (
-  c .put-answer .ensures ∙ ap (λ (x : Answer). placesOf (answerValues x)) (c .before .before .before .play .ensures .0),
-  c .before .before .before .play .ensures .1,
+  c .put-answer .ensures ∙ ap placesOf (c .before .before .before .play .ensures .answer .values),
+  c .before .before .before .play .ensures .bytes,
 )
 
 pub pt-play-spec : {M : Type 1} → statement M

@@ -1,8 +1,6 @@
 -- The tree's call, its answer in the eight places. Assumes nothing.
 use borrow.Author.Needs.{needs}
 use mathlib.Core.Path.{ap, _∙_}
-use Rattle.tree.specs.declared.Answer.{Answer}
-use Rattle.tree.specs.Calls.{answerValues}
 use Rattle.capi.specs.Places.{placesOf}
 use Rattle.capi.proofs.pt_set_list.Statement.{statement}
 use Rattle.capi.proofs.pt_set_list.Tie as tie
@@ -18,8 +16,8 @@ same-length c = search needs
 
 returns : tie.Need-returns
 returns c = (
-  c .put-answer .ensures ∙ ap (λ (x : Answer). placesOf (answerValues x)) (c .before .before .before .set-list .ensures .0),
-  c .before .before .before .set-list .ensures .1,
+  c .put-answer .ensures ∙ ap placesOf (c .before .before .before .set-list .ensures .answer .values),
+  c .before .before .before .set-list .ensures .bytes,
 )
 
 pub pt-set-list-spec : {M : Type 1} → statement M

@@ -1,7 +1,6 @@
 -- The tree's call, with the masks that the mapping holds; its answer in the eight places. Assumes nothing.
 use borrow.Author.Needs.{needs}
 use mathlib.Core.Path.{ap, _∙_}
-use Rattle.tree.specs.declared.Answer.{Answer}
 use Rattle.tree.specs.Calls.{answerValues}
 use Rattle.capi.specs.Places.{placesOf}
 use denote.Ref.{now}
@@ -32,8 +31,8 @@ returns c =
     let s = k .start .ensures in
     let e = ap (λ (n : Mapping). startTo (a .objects) (a .steps) (a .rule) n (lent (yesOf (a .given)) (now (a .default))) (now (a .room)))
     (m .mapping-of .ensures) in (
-      c .put-answer .ensures ∙ ap (λ (x : Answer). placesOf (answerValues x)) (s .0 ∙ ap (λ (o : Outcome). o .answer) e),
-      s .1 ∙ ap (λ (o : Outcome). o .bytes) e,
+      c .put-answer .ensures ∙ ap placesOf (s .answer .values ∙ ap (λ (o : Outcome). answerValues (o .answer)) e),
+      s .bytes ∙ ap (λ (o : Outcome). o .bytes) e,
     )
 
 pub pt-start-spec : {M : Type 1} → statement M

@@ -15,7 +15,7 @@ same-length c = search needs
 
 returns : tie.Need-returns
 unfolding beginTo
-returns c = (c .before .before .start .ensures .0, c .before .before .start .ensures .1)
+returns c = c .before .before .start .ensures
 
 pub begin-spec : {M : Type 1} → statement M
 begin-spec = tie.close (tie.spec slice-aggregate-start start-requires same-length returns)

@@ -23,7 +23,7 @@ ran-here c =
     let p = start c in
     let f = c .feed .ensures in
     let begun = c .before .before .before .before .before in
-    ran (now (p .args .script)) (now (p .args .room)) _ _ _ _ (head-yes (begun .before .before)) (p .pre) (begun .begin .ensures .1) refl (f .0) (f .1 .1)
+    ran (now (p .args .script)) (now (p .args .room)) _ _ _ _ (head-yes (begun .before .before)) (p .pre) (begun .begin .ensures .bytes) refl (f .0) (f .1 .1)
 
 head-ok-requires : tie.Need-head-ok-requires
 head-ok-requires c κs = search needs

@@ -1,6 +1,8 @@
 -- By whether the room is well-formed. Assumes nothing.
 use borrow.Author.Needs.{needs}
 use Rattle.tree.specs.Calls.{countsTo}
+use denote.Ref.{now}
+use Rattle.tree.proofs.Numbers.{says-is, counts-numbered}
 use Rattle.tree.proofs.Tested.{refused, passed}
 use Rattle.tree.proofs.counts.Statement.{statement}
 use Rattle.tree.proofs.counts.Tie as tie
@@ -13,7 +15,7 @@ refused-requires c κs = search needs
 
 returns : tie.Need-returns
 unfolding countsTo
-returns c = simp (refused (c .before .before .formed .ensures) (c .before .if1 .taken)) (c .refused .ensures)
+returns c = says-is _ (countsTo (now (c .before .before .before .before .args .room))) (counts-numbered _) (simp (refused (c .before .before .formed .ensures) (c .before .if1 .taken)) (c .refused .ensures))
 
 number-in-requires : tie.Need-number-in-requires
 number-in-requires c κs = search needs
@@ -29,7 +31,9 @@ cast-t7 c = search needs
 
 returns-2 : tie.Need-returns-2
 unfolding countsTo
-returns-2 c = simp (passed (c .before .before .before .formed .ensures) (c .before .before .if1 .left)) (cc)
+returns-2 c =
+    says-is _ (countsTo (now (c .before .before .before .before .before .args .room))) (counts-numbered _)
+    (simp (passed (c .before .before .before .formed .ensures) (c .before .before .if1 .left)) (cc))
 
 pub counts-spec : {M : Type 1} → statement M
 counts-spec =

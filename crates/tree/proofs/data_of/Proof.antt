@@ -10,6 +10,7 @@ use lib.ListN.{length}
 use Rattle.tree.specs.declared.Answer.the-variants.{Done}
 use Rattle.tree.specs.Calls.{copied, dataOf, dataTo}
 use Rattle.tree.specs.Inner.Faults.{objectFault}
+use Rattle.tree.proofs.Numbers.{promised, data-numbered}
 use Rattle.tree.proofs.Answered.{settle, on-object-good, on-object-bad, object-small, own-long}
 use Rattle.tree.proofs.data_of.Statement.{statement}
 use Rattle.tree.proofs.data_of.Tie as tie
@@ -28,7 +29,8 @@ unfolding dataTo
 returns c =
     let a = c .before .before .before .before .before .args in
     let e = c .before .before .object-fault .ensures in
-    settle (on-object-bad (now (a .room)) (a .object) _ _ (λ h. c .before .if1 .taken (e ∙ h))) (c .refused .ensures ∙ rw e refl) refl
+    promised (dataTo (a .object) (now (a .room)) (now (a .out))) (data-numbered (a .object) (now (a .room)) (now (a .out)))
+    (settle (on-object-bad (now (a .room)) (a .object) _ _ (λ h. c .before .if1 .taken (e ∙ h))) (c .refused .ensures ∙ rw e refl) refl)
 
 own-requires : tie.Need-own-requires
 own-requires c κs = object-small _ _ (good c)
@@ -45,10 +47,11 @@ returns-2 c =
     let g = c .before .before in
     let o = g .before .before in
     let a = o .before .before .before .before .before .args in
-    settle
+    promised (dataTo (a .object) (now (a .room)) (now (a .out))) (data-numbered (a .object) (now (a .room)) (now (a .out)))
+    (settle
     (on-object-good (now (a .room)) (a .object) _ _ (good (o .before))
     ∙ ap (λ (x : List ℕ). copied (Done (length (dataOf x)) true 0) (dataOf x) (now (a .out))) (sym (o .own .ensures)))
-    (g .give-data .ensures .0) (g .give-data .ensures .1)
+    (g .give-data .ensures .0) (g .give-data .ensures .1))
 
 pub data-of-spec : {M : Type 1} → statement M
 data-of-spec =

@@ -7,6 +7,7 @@ use denote.Ref.{now}
 use Rattle.tree.specs.Held.{held}
 use Rattle.tree.specs.Calls.{toldAs, listBytes, copied, listTo}
 use Rattle.tree.specs.Inner.Faults.{objectFault}
+use Rattle.tree.proofs.Numbers.{promised, list-numbered}
 use Rattle.tree.proofs.Answered.{settle, on-object-good, on-object-bad, object-small}
 use Rattle.tree.proofs.list_of.Statement.{statement}
 use Rattle.tree.proofs.list_of.Tie as tie
@@ -25,7 +26,8 @@ unfolding listTo
 returns c =
     let a = c .before .before .before .before .before .args in
     let e = c .before .before .object-fault .ensures in
-    settle (on-object-bad (now (a .room)) (a .object) _ _ (λ h. c .before .if1 .taken (e ∙ h))) (c .refused .ensures ∙ rw e refl) refl
+    promised (listTo (a .object) (now (a .room)) (now (a .out))) (list-numbered (a .object) (now (a .room)) (now (a .out)))
+    (settle (on-object-bad (now (a .room)) (a .object) _ _ (λ h. c .before .if1 .taken (e ∙ h))) (c .refused .ensures ∙ rw e refl) refl)
 
 slot-requires : tie.Need-slot-requires
 slot-requires c κs = object-small _ _ (good c)
@@ -42,10 +44,11 @@ returns-2 c =
     let g = c .before .before in
     let s = g .before .before in
     let a = s .before .before .before .before .before .args in
-    settle
+    promised (listTo (a .object) (now (a .room)) (now (a .out))) (list-numbered (a .object) (now (a .room)) (now (a .out)))
+    (settle
     (on-object-good (now (a .room)) (a .object) _ _ (good (s .before))
     ∙ ap (λ (x : List ℕ). copied (toldAs (held x)) (listBytes (held x)) (now (a .out))) (sym (s .slot .ensures)))
-    (g .give-list .ensures .0) (g .give-list .ensures .1)
+    (g .give-list .ensures .0) (g .give-list .ensures .1))
 
 pub list-of-spec : {M : Type 1} → statement M
 list-of-spec =

@@ -8,6 +8,7 @@ use Rattle.list.specs.Bytes.{part}
 use Rattle.tree.specs.Held.{held}
 use Rattle.tree.specs.Calls.{toldAs, listBytes, copied, ownTo}
 use Rattle.tree.specs.Inner.Faults.{objectFault}
+use Rattle.tree.proofs.Numbers.{promised, own-numbered}
 use Rattle.tree.proofs.Answered.{settle, on-object-good, on-object-bad, object-small}
 use Rattle.tree.proofs.own_of.Statement.{statement}
 use Rattle.tree.proofs.own_of.Tie as tie
@@ -26,7 +27,8 @@ unfolding ownTo
 returns c =
     let a = c .before .before .before .before .before .args in
     let e = c .before .before .object-fault .ensures in
-    settle (on-object-bad (now (a .room)) (a .object) _ _ (λ h. c .before .if1 .taken (e ∙ h))) (c .refused .ensures ∙ rw e refl) refl
+    promised (ownTo (a .object) (now (a .room)) (now (a .out))) (own-numbered (a .object) (now (a .room)) (now (a .out)))
+    (settle (on-object-bad (now (a .room)) (a .object) _ _ (λ h. c .before .if1 .taken (e ∙ h))) (c .refused .ensures ∙ rw e refl) refl)
 
 own-requires : tie.Need-own-requires
 own-requires c κs = object-small _ _ (good c)
@@ -48,10 +50,11 @@ returns-2 c =
     let o = p .before in
     let a = o .before .before .before .before .before .args in
     let e = p .part-of .ensures ∙ ap (part 157 1027) (o .own .ensures) in
-    settle
+    promised (ownTo (a .object) (now (a .room)) (now (a .out))) (own-numbered (a .object) (now (a .room)) (now (a .out)))
+    (settle
     (on-object-good (now (a .room)) (a .object) _ _ (good (o .before))
     ∙ ap (λ (x : List ℕ). copied (toldAs (held x)) (listBytes (held x)) (now (a .out))) (sym e))
-    (g .give-list .ensures .0) (g .give-list .ensures .1)
+    (g .give-list .ensures .0) (g .give-list .ensures .1))
 
 pub own-of-spec : {M : Type 1} → statement M
 own-of-spec =

@@ -3,6 +3,8 @@ use borrow.Author.Needs.{needs}
 use native.Mathlib.Omega.{arith}
 use mathlib.Core.Path.{_≡_, refl, sym, ap, _∙_}
 use mathlib.Core.Bool.{true}
+use mathlib.Core.List.{List}
+use Prim.Native.Nat.{ℕ}
 use denote.Ref.{now}
 use lib.ListN.{length}
 use Rattle.inherit.specs.Asked.{lent}
@@ -10,8 +12,9 @@ use Rattle.tree.specs.Model.{shortIf}
 use Rattle.tree.specs.declared.Answer.{Answer}
 use Rattle.tree.specs.declared.Answer.the-variants.{Refused}
 use Rattle.tree.specs.declared.tests.Fault.{Fault}
-use Rattle.tree.specs.Calls.{startOk, startTo}
+use Rattle.tree.specs.Calls.{Outcome, Promised, startOk, startTo}
 use Rattle.tree.specs.Inner.Faults.{faultOf}
+use Rattle.tree.proofs.Numbers.{start-promised}
 use Rattle.tree.proofs.Tested.{refused, passed}
 use Rattle.tree.proofs.Answered.{settle, need-yes, need-no, readable-good, readable-bad, start-facts}
 use Rattle.tree.proofs.start.Statement.{statement}
@@ -35,9 +38,24 @@ start-ok-requires c κs = search needs
 refused-requires : tie.Need-refused-requires
 refused-requires c κs = search needs
 
+-- where the call begins, from behind its first test; and its promise there
+abbrev start1 : tie.Else1 → tie.Start
+start1 c = c .before .before .before .before
+
+abbrev outcome : tie.Start → Outcome
+outcome s = let a = s .args in startTo (a .objects) (a .steps) (a .rule) (a .mapping) (lent (a .has) (now (a .default))) (now (a .room))
+
+start-kept : (s : tie.Start) {a : Answer} {x : List ℕ} → (a ≡ outcome s .answer) × (x ≡ outcome s .bytes) → Promised (outcome s) a x
+start-kept s p =
+    let a = s .args in
+    start-promised (now (a .room)) (a .objects) (a .steps) (a .rule) (a .mapping) (lent (a .has) (now (a .default))) p
+
+
 returns : tie.Need-returns
 unfolding startTo
-returns c = settle (need-no 12 _ _ (refused (c .before .before .start-ok .ensures) (c .before .if1 .taken))) (c .refused .ensures) refl
+returns c =
+    start-kept (c .before .before .before .before .before)
+    (settle (need-no 12 _ _ (refused (c .before .before .start-ok .ensures) (c .before .if1 .taken))) (c .refused .ensures) refl)
 
 fault-of-requires : tie.Need-fault-of-requires
 fault-of-requires c κs = search needs
@@ -46,8 +64,9 @@ returns-2 : tie.Need-returns-2
 unfolding startTo
 returns-2 c =
     let f = c .before .before .fault-of .ensures in
-    settle (need-yes 12 _ _ (ok-yes (c .before .before .before)) ∙ readable-bad _ 3 _ _ (λ h. c .if2 .taken (ap (λ (x : Fault). x .number) f ∙ h)))
-    (ap {B = Answer} (λ (x : Fault). Refused (x .number) 3 (x .offset)) f) refl
+    start-kept (start1 (c .before .before .before))
+    (settle (need-yes 12 _ _ (ok-yes (c .before .before .before)) ∙ readable-bad _ 3 _ _ (λ h. c .if2 .taken (ap (λ (x : Fault). x .number) f ∙ h)))
+    (ap {B = Answer} (λ (x : Fault). Refused (x .number) 3 (x .offset)) f) refl)
 
 short-requires : tie.Need-short-requires
 short-requires c κs = search needs
@@ -58,11 +77,12 @@ refused-requires-2 c κs = search needs
 returns-3 : tie.Need-returns-3
 unfolding startTo
 returns-3 c =
-    settle
+    start-kept (start1 (c .before .before .before .before .before .before))
+    (settle
     (need-yes 12 _ _ (ok-yes (c .before .before .before .before .before .before))
     ∙ readable-good _ 3 _ _ (list-yes (c .before .before .before))
     ∙ need-no 8 _ _ (refused (c .before .before .short .ensures) (c .before .if3 .taken)))
-    (c .refused2 .ensures) refl
+    (c .refused2 .ensures) refl)
 
 cast-empty : tie.Need-cast-empty
 cast-empty c = omega (arith, start-facts _ _ _ _ (ok-yes (c .before .before .before .before .before .before)))
@@ -81,11 +101,12 @@ same-length c = search needs
 returns-4 : tie.Need-returns-4
 unfolding startTo
 returns-4 c =
-    settle
+    start-kept (start1 (c .before .before .before .before .before .before .before .before .before .before))
+    (settle
     (need-yes 12 _ _ (ok-yes (c .before .before .before .before .before .before .before .before .before .before))
     ∙ readable-good _ 3 _ _ (list-yes (c .before .before .before .before .before .before .before))
     ∙ need-yes 8 _ _ (short-yes (c .before .before .before .before .before)))
-    (c .zeros .ensures) (c .before .before .before .empty .ensures)
+    (c .zeros .ensures) (c .before .before .before .empty .ensures))
 
 pub start-spec : {M : Type 1} → statement M
 start-spec =

@@ -3,6 +3,7 @@ use borrow.Author.Needs.{needs}
 use mathlib.Core.Path.{_≡_, ap, _∙_}
 use Prim.Native.Nat.{ℕ}
 use denote.Ref.{now}
+use Rattle.tree.proofs.Numbers.{promised-as}
 use Rattle.tree.specs.Calls.{addTo}
 use Rattle.tree.specs.Held.{New}
 use Rattle.script.specs.Record.{nameIn, nameEnd, namesEnd, listIn, parentNamed}
@@ -91,10 +92,8 @@ returns c =
     (type .guid-at .ensures)
     (name-by t _ 20 _ (owner .before .byte-in2 .ensures) (owner .part-of .ensures))
     (name-by t _ _ _ (group .before .byte-in3 .ensures) (group .part-of2 .ensures) ∙ ap (λ (x : ℕ). nameIn x t) g)
-    (list-by t _ _ _ (sizes .half-in .ensures) (list .part-of3 .ensures) ∙ ap (λ (x : ℕ). listIn x t) l) in (
-      c .before .before .add .ensures .0 ∙ ap (λ (n : New). addTo n r .answer) new,
-      c .before .before .add .ensures .1 ∙ ap (λ (n : New). addTo n r .bytes) new,
-    )
+    (list-by t _ _ _ (sizes .half-in .ensures) (list .part-of3 .ensures) ∙ ap (λ (x : ℕ). listIn x t) l) in
+    promised-as (ap (λ (n : New). addTo n r) new) (c .before .before .add .ensures)
 
 pub add-spec : {M : Type 1} → statement M
 add-spec =

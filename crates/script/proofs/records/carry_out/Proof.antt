@@ -5,6 +5,7 @@ use mathlib.Core.Path.{sym, ap, ap₂, _∙_}
 use mathlib.Core.Bool.{Bool}
 use Prim.Native.Nat.{ℕ}
 use denote.Ref.{now}
+use Rattle.tree.proofs.Numbers.{promised-as}
 use Rattle.tree.specs.Shown.{Request, changeWith, callOn}
 use Rattle.tree.specs.Calls.{mark, alterTo}
 use Rattle.script.proofs.Tables.{asked-1, asked-2, asked-3, asked-4, asked-5}
@@ -25,10 +26,8 @@ unfolding callOn changeWith
 returns c =
     let a = c .before .before .before .before .before .before .before .before .args in
     let r = now (a .room) in
-    let e = asked-1 (now (a .t)) (omega arith) in (
-      c .before .before .add .ensures .0 ∙ ap (λ (q : Request). callOn q r .answer) (sym e),
-      c .before .before .add .ensures .1 ∙ ap (λ (q : Request). callOn q r .bytes) (sym e),
-    )
+    let e = asked-1 (now (a .t)) (omega arith) in
+    promised-as (ap (λ (q : Request). callOn q r) (sym e)) (c .before .before .add .ensures)
 
 set-list-requires : tie.Need-set-list-requires
 set-list-requires c κs = search needs
@@ -41,10 +40,8 @@ unfolding callOn changeWith
 returns-2 c =
     let a = c .before .before .before .before .before .before .before .before .before .args in
     let r = now (a .room) in
-    let e = asked-2 (now (a .t)) (omega arith) in (
-      c .before .before .set-list .ensures .0 ∙ ap (λ (q : Request). callOn q r .answer) (sym e),
-      c .before .before .set-list .ensures .1 ∙ ap (λ (q : Request). callOn q r .bytes) (sym e),
-    )
+    let e = asked-2 (now (a .t)) (omega arith) in
+    promised-as (ap (λ (q : Request). callOn q r) (sym e)) (c .before .before .set-list .ensures)
 
 byte-in-requires-2 : tie.Need-byte-in-requires-2
 byte-in-requires-2 c κs = search needs
@@ -69,10 +66,8 @@ returns-3 c =
     let e = asked-3 (now (a .t)) (omega arith) in
     let s = c .before .before .set-mark .ensures in
     let i = c .before .before .before .before .byte-in2 .ensures in
-    let m = c .before .before .before .flag .ensures in (
-      s .0 ∙ ap₂ (λ (n : ℕ) (o : Bool). alterTo n (mark o) r .answer) i m ∙ ap (λ (q : Request). callOn q r .answer) (sym e),
-      s .1 ∙ ap₂ (λ (n : ℕ) (o : Bool). alterTo n (mark o) r .bytes) i m ∙ ap (λ (q : Request). callOn q r .bytes) (sym e),
-    )
+    let m = c .before .before .before .flag .ensures in
+    promised-as (ap₂ (λ (n : ℕ) (o : Bool). alterTo n (mark o) r) i m ∙ ap (λ (q : Request). callOn q r) (sym e)) s
 
 set-owner-requires : tie.Need-set-owner-requires
 set-owner-requires c κs = search needs
@@ -85,10 +80,8 @@ unfolding callOn changeWith
 returns-4 c =
     let a = c .before .before .before .before .before .before .before .before .before .before .before .args in
     let r = now (a .room) in
-    let e = asked-4 (now (a .t)) (omega arith) in (
-      c .before .before .set-owner .ensures .0 ∙ ap (λ (q : Request). callOn q r .answer) (sym e),
-      c .before .before .set-owner .ensures .1 ∙ ap (λ (q : Request). callOn q r .bytes) (sym e),
-    )
+    let e = asked-4 (now (a .t)) (omega arith) in
+    promised-as (ap (λ (q : Request). callOn q r) (sym e)) (c .before .before .set-owner .ensures)
 
 undo-requires : tie.Need-undo-requires
 undo-requires c κs = search needs
@@ -101,10 +94,8 @@ unfolding callOn changeWith
 returns-5 c =
     let a = c .before .before .before .before .before .before .before .before .before .before .before .args in
     let r = now (a .room) in
-    let e = asked-5 (now (a .t)) (λ h. omega arith) (λ h. omega arith) (λ h. omega arith) (λ h. omega arith) in (
-      c .before .before .undo .ensures .0 ∙ ap (λ (q : Request). callOn q r .answer) (sym e),
-      c .before .before .undo .ensures .1 ∙ ap (λ (q : Request). callOn q r .bytes) (sym e),
-    )
+    let e = asked-5 (now (a .t)) (λ h. omega arith) (λ h. omega arith) (λ h. omega arith) (λ h. omega arith) in
+    promised-as (ap (λ (q : Request). callOn q r) (sym e)) (c .before .before .undo .ensures)
 
 pub carry-out-spec : {M : Type 1} → statement M
 carry-out-spec =

@@ -3,6 +3,7 @@ use borrow.Author.Needs.{needs}
 use mathlib.Core.Path.{ap₂, _∙_}
 use Prim.Native.Nat.{ℕ}
 use denote.Ref.{now}
+use Rattle.tree.proofs.Numbers.{promised-as}
 use Rattle.inherit.specs.Asked.{MaybeList}
 use Rattle.tree.specs.Calls.{list, alterTo}
 use Rattle.script.proofs.Tables.{list-by}
@@ -36,10 +37,8 @@ returns c =
     let a = size .before .before .before .args in
     let r = now (a .room) in
     let i = c .before .before .before .before .byte-in .ensures in
-    let l = list-by (now (a .t)) _ 2 _ (size .half-in .ensures) (c .before .before .before .part-of .ensures) in (
-      c .before .before .set-list .ensures .0 ∙ ap₂ (λ (n : ℕ) (o : MaybeList). alterTo n (list o) r .answer) i l,
-      c .before .before .set-list .ensures .1 ∙ ap₂ (λ (n : ℕ) (o : MaybeList). alterTo n (list o) r .bytes) i l,
-    )
+    let l = list-by (now (a .t)) _ 2 _ (size .half-in .ensures) (c .before .before .before .part-of .ensures) in
+    promised-as (ap₂ (λ (n : ℕ) (o : MaybeList). alterTo n (list o) r) i l) (c .before .before .set-list .ensures)
 
 pub set-list-spec : {M : Type 1} → statement M
 set-list-spec =

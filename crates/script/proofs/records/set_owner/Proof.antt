@@ -3,6 +3,7 @@ use borrow.Author.Needs.{needs}
 use mathlib.Core.Path.{refl, ap, _∙_}
 use Prim.Native.Nat.{ℕ}
 use denote.Ref.{now}
+use Rattle.tree.proofs.Numbers.{promised-as}
 use Rattle.script.specs.Record.{nameIn}
 use Rattle.script.proofs.Tables.{name-by}
 use Rattle.script.proofs.records.set_owner.Statement.{statement}
@@ -54,10 +55,8 @@ returns c =
     let t = now (a .t) in
     let i = object .byte-in .ensures in
     let o = name-by t _ 2 _ (owner .before .byte-in2 .ensures) (owner .part-of .ensures) in
-    let g = name-by t _ _ _ (group .before .byte-in3 .ensures) (group .part-of2 .ensures) ∙ ap (λ (x : ℕ). nameIn x t) (end .name-end .ensures .0) in (
-      c .before .before .set-owner .ensures .0 ∙ rw (i, o, g) refl,
-      c .before .before .set-owner .ensures .1 ∙ rw (i, o, g) refl,
-    )
+    let g = name-by t _ _ _ (group .before .byte-in3 .ensures) (group .part-of2 .ensures) ∙ ap (λ (x : ℕ). nameIn x t) (end .name-end .ensures .0) in
+    promised-as (rw (i, o, g) refl) (c .before .before .set-owner .ensures)
 
 pub set-owner-spec : {M : Type 1} → statement M
 set-owner-spec =

@@ -18,7 +18,7 @@ same-length c = search needs
 returns : tie.Need-returns
 returns c =
     let a = c .before .before .before .before .before .before .before .args in
-    (refl, c .before .before .carry-out .ensures .1 ∙ carried-part (a .n) (now (a .t)) (now (a .room)) _ (c .before .before .before .part-of .ensures))
+    (refl, c .before .before .carry-out .ensures .bytes ∙ carried-part (a .n) (now (a .t)) (now (a .room)) _ (c .before .before .before .part-of .ensures))
 
 pub past-spec : {M : Type 1} → statement M
 past-spec = tie.close (tie.spec part-of-requires carry-out-requires same-length returns)

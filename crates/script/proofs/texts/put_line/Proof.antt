@@ -3,6 +3,7 @@ use borrow.Author.Needs.{needs}
 use native.Mathlib.Omega.{arith}
 use mathlib.Core.Path.{refl, sym, _∙_}
 use denote.Ref.{now}
+use Rattle.tree.proofs.Numbers.{said-is, list-numbered}
 use Rattle.tree.specs.Held.{held}
 use Rattle.tree.specs.Room.{slot}
 use Rattle.script.proofs.Laid.{lays, lays-then}
@@ -53,7 +54,7 @@ returns c =
     let e = c .before .before .put-columns .ensures in
     let o = held (slot (a .args .i) (now (a .args .room))) in
     let told = sym (list-told (a .args .i) (now (a .args .room)) _ (a .pre .1 .0) (a .pre .1 .1) refl) in
-    let y = told ∙ sym (t .list-of .ensures .0) ∙ c .before .before .before .before .before .length .given .1 in
+    let y = told ∙ sym (said-is _ _ (list-numbered (a .args .i) (now (a .args .room)) _) (t .list-of .ensures .answer)) ∙ c .before .before .before .before .before .length .given .1 in
     let l = line-told (a .args .i) o y
     (lays-then (lays _ _ _ _ _ (p .0) (p .1 .1)) (lays-then (lays _ _ _ _ _ (q .0) (q .1)) (lays _ _ _ _ _ (e .0) (e .1 .1)))) in
     (l .ends, (omega arith, l .text))
@@ -67,7 +68,7 @@ returns-2 c =
     let s = t .before .before .before .before in
     let a = s .before .before .before .before .before .before .before .before .before in
     let told = sym (list-told (a .args .i) (now (a .args .room)) _ (a .pre .1 .0) (a .pre .1 .1) refl) in
-    absurd (told-done (held (slot (a .args .i) (now (a .args .room)))) (told ∙ sym (t .list-of .ensures .0) ∙ c .before .number .given .1))
+    absurd (told-done (held (slot (a .args .i) (now (a .args .room)))) (told ∙ sym (said-is _ _ (list-numbered (a .args .i) (now (a .args .room)) _) (t .list-of .ensures .answer)) ∙ c .before .number .given .1))
 
 pub put-line-spec : {M : Type 1} → statement M
 put-line-spec =
