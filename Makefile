@@ -68,6 +68,7 @@ test:
 quick:
 	tools/claims
 	rt check
+	$(MAKE) --no-print-directory lib
 	$(MAKE) --no-print-directory -j2 --output-sync=target compare CASES=5000 TREES=5000 DEEP=2 SCRIPTS=5000 PIPED=100
 	@echo "quick: all held; no edit was tried, and the gate asks for more: no verdict"
 
