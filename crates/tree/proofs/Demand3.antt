@@ -36,7 +36,7 @@ use Rattle.tree.proofs.Reaches.{Reached, Begun, begun, start-stays, rea
 use Rattle.tree.proofs.Likeness.{Good, objectsFrom, replay-like}
 use Rattle.tree.proofs.Modelled.{said, readable-as, test-as, short-is, objects-shown, shown-length, objects-length, lists-like, change-as}
 use Rattle.tree.proofs.Reading.{ReadAs, part-as, counts-as}
-use Rattle.tree.proofs.Numbers.{accepted-number, change-numbered, start-numbered}
+use Rattle.tree.proofs.Numbers.{accepted-number, change-numbered, undo-numbered, start-numbered}
 
 -- ---- a start
 
@@ -58,14 +58,19 @@ start-as b r =
 
 -- ---- what a room shows of the model's tree, and what calls on it answer
 
+-- the room r, of `long` bytes, and the model's tree s
 pub record Shows (long : ℕ) (r : List ℕ) (s : Model.Tree) : Type 0 where
+  -- r is well formed; its settings and objects, read as records, are those of s
   pub long-is : length r ≡ long
   pub well : formed r ≡ true
   pub settings-are : settingsIn r ≡ s .settings
   pub objects-are : objectsIn r ≡ Model.objectsOf s
+  -- each computed list in it is the one that following parents up to the root gives; as many steps are kept
   pub lists-are : (i : ℕ) → i < objects r → Model.listOf (s .settings) (Model.objectsOf s) i ≡ some (held (slot i r))
   pub kept-are : keptSteps r ≡ s .kept
+  -- each call answers the model's number and values; one that is refused leaves every byte of the room; what is read back is the model's
   pub answers : (q : Request) → answerTo q r ≡ Model.answer s (meant long q)
+  pub refused-stays : (q : Request) → Model.accepted (answerTo q r) ≡ false → callOn q r .bytes ≡ r
   pub read-back : (x : Model.Part) (i : ℕ) (out : List ℕ) → readWith x i r out .bytes ≡ Model.readInto (s .settings) (Model.objectsOf s) x i out
 
 -- ---- a start, and the changes and undos since
@@ -168,6 +173,19 @@ module _ (b : Begin) (r : List ℕ) (h : accepted (startWith b r .answer) ≡ tr
   all-said qs (read x i out) = read-said qs x i out .answer-is
   all-said qs counts = counts-said qs
 
+  all-stays : (qs : List (Step ChangeGiven)) (q : Request) → Model.accepted (answerTo q (room qs)) ≡ false → callOn q (room qs) .bytes ≡ room qs
+  unfolding callOn callTo
+  all-stays qs (start c) z =
+      start-stays (c .objects) (c .steps) (c .rule) (c .mapping) (c .default) (room qs)
+      (sym (accepted-number (startWith c (room qs) .answer) (start-numbered c (room qs))) ∙ z)
+  all-stays qs (change c) z =
+      let e = call-change c (room qs) in
+      let n = sym (accepted-number (changeWith c (room qs) .answer) (change-numbered c (room qs))) ∙ z in
+      subst (λ (o : Outcome). o .bytes ≡ room qs) e (H qs .refused-stays (edit c) (ap (λ (o : Outcome). accepted (o .answer)) e ∙ n))
+  all-stays qs undo z = H qs .refused-stays take-back (sym (accepted-number (undoTo (room qs) .answer) (undo-numbered (room qs))) ∙ z)
+  all-stays qs (read x i out) z = refl
+  all-stays qs counts z = refl
+
   shows : (qs : List (Step ChangeGiven)) → Shows (length (room qs)) (room qs) (tree qs)
   unfolding past
   shows qs =
@@ -179,6 +197,7 @@ module _ (b : Begin) (r : List ℕ) (h : accepted (startWith b r .answer) ≡ tr
         lists-are = lists-as qs;
         kept-are = H qs .steps-left;
         answers = all-said qs;
+        refused-stays = all-stays qs;
         read-back = λ x i out. read-said qs x i out .bytes-are;
       }
 
@@ -265,7 +284,8 @@ record Follows (long : ℕ) (r : List ℕ) (s : Model.Tree) : Type 0 where
 follows-start : (b : Begin) (r : List ℕ) → accepted (startWith b r .answer) ≡ true → Follows (length r) (startWith b r .bytes) (Model.begun (settingsFrom b))
 unfolding played past remains
 follows-start b r h =
-    record { given = b; before = r; accepts-it = h; steps = []; room-is = refl; tree-is = refl; long-is = begun (b .objects) (b .steps) (b .rule) (b .mapping) (b .default) r h .size-is }
+    let B = begun (b .objects) (b .steps) (b .rule) (b .mapping) (b .default) r h in
+    record { given = b; before = r; accepts-it = h; steps = []; room-is = refl; tree-is = refl; long-is = B .size-is }
 
 module _ {long : ℕ} {r : List ℕ} {s : Model.Tree} (f : Follows long r s) where
   abbrev R : List ℕ
@@ -298,16 +318,16 @@ module _ {long : ℕ} {r : List ℕ} {s : Model.Tree} (f : Follows long r s) whe
   follows-begin b false h =
       subst (λ (x : List ℕ). Follows long x s) (sym (start-stays (b .objects) (b .steps) (b .rule) (b .mapping) (b .default) r h)) f
 
+  start-accepted : (b : Begin)
+      → Model.accepted (Model.answer s (Model.start (settingsFrom b) (leb (roomFor (b .objects) (b .steps)) long))) ≡ accepted (startWith b r .answer)
+  start-accepted b = rw (← f .long-is) (ap Model.accepted (sym (start-said s b r)) ∙ accepted-number (startWith b r .answer) (start-numbered b r))
+
   follows-call : (q : Request) → Follows long (callOn q r .bytes) (Model.next s (meant long q))
   unfolding callOn meant
-  follows-call (start b) = follows-begin′ b
-    where
-      start-accepted : (b : Begin) → Model.accepted (Model.answer s (Model.start (settingsFrom b) (leb (roomFor (b .objects) (b .steps)) long))) ≡ accepted (startWith b r .answer)
-      start-accepted b = rw (← f .long-is) (ap Model.accepted (sym (start-said s b r)) ∙ accepted-number (startWith b r .answer) (start-numbered b r))
-
-      follows-begin′ : (b : Begin) → Follows long (startWith b r .bytes) (Model.next s (Model.start (settingsFrom b) (leb (roomFor (b .objects) (b .steps)) long)))
-      follows-begin′ b = subst (λ (x : Model.Tree). Follows long (startWith b r .bytes) x) (sym (start-next s (settingsFrom b) _ _ (start-accepted b))) (follows-begin b _ refl)
-  follows-call (change c) = subst (λ (o : Outcome). Follows long (o .bytes) (Model.next s (Model.change (changeMeant c)))) (call-change c r) (follows-step (edit c) _ (edit-meant s c))
+  follows-call (start b) =
+      subst (λ (x : Model.Tree). Follows long (startWith b r .bytes) x) (sym (start-next s (settingsFrom b) _ _ (start-accepted b))) (follows-begin b _ refl)
+  follows-call (change c) =
+      subst (λ (o : Outcome). Follows long (o .bytes) (Model.next s (Model.change (changeMeant c)))) (call-change c r) (follows-step (edit c) _ (edit-meant s c))
   follows-call undo = subst (λ (o : Outcome). Follows long (o .bytes) (Model.next s Model.undo)) (call-undo r) (follows-step take-back _ (undo-meant s))
   follows-call (read x i out) = subst (Follows long r) (sym (read-next s x i out)) f
   follows-call counts = subst (Follows long r) (sym (counts-next s)) f

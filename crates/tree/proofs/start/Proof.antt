@@ -50,7 +50,6 @@ start-kept s p =
     let a = s .args in
     start-promised (now (a .room)) (a .objects) (a .steps) (a .rule) (a .mapping) (lent (a .has) (now (a .default))) p
 
-
 returns : tie.Need-returns
 unfolding startTo
 returns c =
