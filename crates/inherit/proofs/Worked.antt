@@ -12,11 +12,12 @@ use Rattle.list.specs.Entry.{plainOf, objectOf, objectKind, kindOk, flagsOk, he
 use Rattle.list.specs.List.{revOk, headerOk, cut, entriesOf, headBytes, render, onGood, walkOf, finish, checkOf}
 use Rattle.list.specs.Answer.{Values, done, refused}
 use Rattle.inherit.specs.declared.Mapping.{Mapping}
+use Rattle.inherit.specs.declared.Computed.the-variants.{Present, Absent, Refused}
 use Rattle.inherit.specs.Asked.{Asked, MaybeList, lent, entriesIf, typesOk, typesOf}
 use Rattle.inherit.specs.Copies.{anyHeritable, among, typeApplies, pass, keptFlags, takesFirst, firstPart, takesSecond, secondPart, fromParent, ownEntries, fromCreator}
 use Rattle.inherit.specs.Last.{inPlace, mapped, resolved, lastOf, lastStep}
 use Rattle.inherit.specs.Branch.{inheritedBit, withCreator, fromDefault, branch, resultOf}
-use Rattle.inherit.specs.Compute.{anyObject, withRoom, onReading, readable, ruleOk, computeOf, bytesFor, written, outOf}
+use Rattle.inherit.specs.Compute.{anyObject, withRoom, onReading, readable, ruleOk, computeOf, bytesFor, written, outOf, askedBy, computedValues, isRefusal}
 
 -- S-1-5-18
 abbrev pub system : List ℕ
@@ -149,3 +150,201 @@ masks-worked = (refl, (refl, (refl, (refl, refl))))
 -- a list that is given is that list, an empty one too; else there is none
 pub lent-worked : (s : List ℕ) → (lent true s ≡ some s) × (lent false s ≡ none)
 lent-worked s = (refl, refl)
+
+-- ---- what K1 to K12 leave open, worked by hand from RULES 2 and 4.4
+
+-- the owner S-1-5-32-544, of 16 bytes, and the group S-1-5-11
+abbrev admins : List ℕ
+admins = 0x01 ∷ 0x02 ∷ 0 ∷ 0 ∷ 0 ∷ 0 ∷ 0 ∷ 0x05 ∷ 0x20 ∷ 0 ∷ 0 ∷ 0 ∷ 0x20 ∷ 0x02 ∷ 0 ∷ 0 ∷ []
+
+abbrev users : List ℕ
+users = 0x01 ∷ 0x01 ∷ 0 ∷ 0 ∷ 0 ∷ 0 ∷ 0 ∷ 0x05 ∷ 0x0B ∷ 0 ∷ 0 ∷ 0 ∷ []
+
+-- an entry of 20 bytes, mask 1; creator owner is 0, creator group 1
+abbrev entry20 : ℕ → ℕ → List ℕ → List ℕ
+entry20 kind flags sid = kind ∷ flags ∷ 0x14 ∷ 0 ∷ 0x01 ∷ 0 ∷ 0 ∷ 0 ∷ sid
+
+abbrev creators : ℕ → List ℕ
+creators k = 0x01 ∷ 0x01 ∷ 0 ∷ 0 ∷ 0 ∷ 0 ∷ 0 ∷ 0x03 ∷ k ∷ 0 ∷ 0 ∷ 0 ∷ []
+
+-- an object entry of 40 bytes for S-1-5-11, with an ObjectType of sixteen bytes x; one of 24 with none
+abbrev typed : ℕ → ℕ → List ℕ
+typed flags x = 0x05 ∷ flags ∷ 0x28 ∷ 0 ∷ 0x01 ∷ 0 ∷ 0 ∷ 0 ∷ 0x01 ∷ 0 ∷ 0 ∷ 0 ∷ (replicate 16 x ++ users)
+
+abbrev untyped : ℕ → List ℕ
+untyped flags = 0x06 ∷ flags ∷ 0x18 ∷ 0 ∷ 0x01 ∷ 0 ∷ 0 ∷ 0 ∷ 0 ∷ 0 ∷ 0 ∷ 0 ∷ users
+
+abbrev listed4 : ℕ → ℕ → List (List ℕ) → List ℕ
+listed4 size count es = 0x04 ∷ 0 ∷ size ∷ 0 ∷ count ∷ 0 ∷ 0 ∷ 0 ∷ flatten es
+
+abbrev ask : ℕ → MaybeList → MaybeList → MaybeList → Bool → List ℕ → Bool → Asked
+ask rule parent creator default container types defaulted =
+    record {
+      rule = rule;
+      parent = parent;
+      creator = creator;
+      default = default;
+      container = container;
+      types = types;
+      owner = admins;
+      group = users;
+      mapping = mapping;
+      auto-inherit = true;
+      default-descriptor = defaulted;
+      protected = false;
+    }
+
+-- the answer, and a buffer of sevens
+abbrev gives : Asked → ℕ → Outcome
+gives a room = record { answer = computeOf a room; out = outOf a (replicate room 7) }
+
+-- a list of one entry for S-1-5-11; one whose only entry is cut short, at 8
+abbrev one : ℕ → ℕ → MaybeList
+one kind flags = some (listed 0x1C 1 (entry20 kind flags users ∷ []))
+
+abbrev short : MaybeList
+short = some (0x02 ∷ 0 ∷ 0x0C ∷ 0 ∷ 0x01 ∷ 0 ∷ 0 ∷ 0 ∷ 0x00 ∷ 0x00 ∷ 0x05 ∷ 0 ∷ [])
+
+abbrev seven-nine : List ℕ
+seven-nine = replicate 16 9 ++ replicate 16 7
+
+abbrev asked-of : List ℕ → List ℕ → List ℕ → MaybeList → MaybeList → MaybeList → ℕ → Asked
+asked-of owner group types parent creator default rule =
+    record {
+      rule = rule;
+      parent = parent;
+      creator = creator;
+      default = default;
+      container = false;
+      types = types;
+      owner = owner;
+      group = group;
+      mapping = mapping;
+      auto-inherit = true;
+      default-descriptor = false;
+      protected = false;
+    }
+
+pub record More : Type 0 where
+  -- 2.8: creator owner becomes the owner, and the size follows; creator group becomes the group
+  pub placeholders :
+      gives (ask 2 (some (listed 0x30 2 (entry20 0 0x01 (creators 0) ∷ entry20 0 0x01 (creators 1) ∷ []))) none none false [] false) 54
+      ≡ record { answer = done 52 1 2 0; out = listed 0x34 2 ((0x00 ∷ 0x10 ∷ 0x18 ∷ 0 ∷ 0x01 ∷ 0 ∷ 0 ∷ 0 ∷ admins) ∷ entry20 0 0x10 users ∷ []) ++ (7 ∷ 7 ∷ []) }
+  -- 2.3, 2.4: a deny entry, with its own SID
+  pub denied :
+      gives (ask 2 (one 1 0x02) none none true [] false) 48
+      ≡ record { answer = done 48 1 2 0; out = listed 0x30 2 (entry20 1 0x10 users ∷ entry20 1 0x1A users ∷ []) }
+  -- 2.3: an ObjectType among the object types; not among them; none; and 2.4, which doesn't ask
+  pub type-applies :
+      gives (ask 2 (some (listed4 0x30 1 (typed 0x01 7 ∷ []))) none none false seven-nine false) 48
+      ≡ record { answer = done 48 1 1 0; out = listed4 0x30 1 (typed 0x10 7 ∷ []) }
+  pub type-other : gives (ask 2 (some (listed4 0x30 1 (typed 0x01 8 ∷ []))) none none false seven-nine false) 8 ≡ record { answer = done 8 1 0 0; out = listed 0x08 0 [] }
+  pub type-none :
+      gives (ask 2 (some (listed4 0x20 1 (untyped 0x01 ∷ []))) none none false seven-nine false) 8 ≡ record { answer = done 8 1 0 0; out = listed 0x08 0 [] }
+  pub type-below :
+      gives (ask 2 (some (listed4 0x30 1 (typed 0x02 8 ∷ []))) none none true seven-nine false) 48
+      ≡ record { answer = done 48 1 1 0; out = listed4 0x30 1 (typed 0x1A 8 ∷ []) }
+  pub four-types :
+      typesOf (replicate 16 1 ++ (replicate 16 2 ++ (replicate 16 3 ++ replicate 16 4)))
+      ≡ replicate 16 1 ∷ replicate 16 2 ∷ replicate 16 3 ∷ replicate 16 4 ∷ []
+  pub one-type : typesOf (replicate 16 1) ≡ replicate 16 1 ∷ []
+  -- 2.10, first row with a creator: default descriptor
+  pub defaulted :
+      gives (ask 2 (one 0 0x03) (one 1 0x00) none true [] true) 48
+      ≡ record { answer = done 48 1 2 0; out = listed 0x30 2 (entry20 0 0x10 users ∷ entry20 0 0x1B users ∷ []) }
+  -- second row: of the creator nothing is left; third row: own entries, not those with ID, then P
+  pub rule-1 :
+      gives (ask 1 (one 0 0x03) (one 1 0x03) none true [] false) 48
+      ≡ record { answer = done 48 1 2 0x0400; out = listed 0x30 2 (entry20 0 0x10 users ∷ entry20 0 0x1B users ∷ []) }
+  pub rule-2 :
+      gives (ask 2 (one 0 0x01) (some (listed 0x30 2 (entry20 0 0x10 users ∷ entry20 1 0x0B users ∷ []))) none false [] false) 48
+      ≡ record { answer = done 48 1 2 0x0400; out = listed 0x30 2 (entry20 1 0x0B users ∷ entry20 0 0x10 users ∷ []) }
+  -- fourth row: the default list, all of it; fifth row: own entries
+  pub default-list :
+      gives (ask 2 none none (some (listed 0x30 2 (entry20 0 0x1B users ∷ entry20 1 0x00 (creators 1) ∷ []))) true [] false) 48
+      ≡ record { answer = done 48 1 2 0; out = listed 0x30 2 (entry20 0 0x1B users ∷ entry20 1 0x00 users ∷ []) }
+  pub own-only :
+      gives (ask 1 (one 0 0x08) (some (listed 0x30 2 (entry20 0 0x10 users ∷ entry20 1 0x0B users ∷ []))) (one 0 0x00) false [] false) 30
+      ≡ record { answer = done 28 1 1 0; out = listed 0x1C 1 (entry20 1 0x0B users ∷ []) ++ (7 ∷ 7 ∷ []) }
+  -- 4.4: 12, then 1 to 5 of the parent's list, the creator's, the default list, then 6 for owner and group, then 7, then 8; the buffer as it was
+  pub refusals :
+      map (λ (a : Asked). computeOf a 0)
+      (asked-of [] [] (0 ∷ []) short short short 0
+      ∷ asked-of [] [] (0 ∷ []) short short short 3
+      ∷ asked-of [] [] (0 ∷ []) short short short 1
+      ∷ asked-of [] [] (0 ∷ []) none short short 1
+      ∷ asked-of [] [] (0 ∷ []) (one 0 1) none short 1
+      ∷ asked-of (creators 1) users (0 ∷ []) (one 0 1) none none 1
+      ∷ asked-of admins (creators 0) (0 ∷ []) (one 0 1) none none 1
+      ∷ asked-of admins [] (0 ∷ []) (one 0 1) none none 1
+      ∷ asked-of admins users (0 ∷ []) (one 0 1) none none 1
+      ∷ asked-of admins users (replicate 80 0) (one 0 1) none none 1
+      ∷ asked-of admins users (replicate 64 0) (one 0 1) none none 1
+      ∷ asked-of admins users [] (one 0 1) none none 1
+      ∷ [])
+      ≡ refused 12 0 0 ∷ refused 12 0 0 ∷ refused 2 1 8 ∷ refused 2 2 8 ∷ refused 2 3 8 ∷ refused 6 0 0 ∷ refused 6 0 0 ∷ refused 6 0 0 ∷ refused 7 0 0 ∷ refused 7 0 0
+      ∷ refused 8 0 0 ∷ refused 8 0 0 ∷ []
+  pub as-it-was : gives (ask 3 none none none true [] false) 2 ≡ record { answer = refused 12 0 0; out = 7 ∷ 7 ∷ [] }
+
+pub more : More
+unfolding flatten computeOf readable onReading ruleOk withRoom anyObject bytesFor written resultOf branch
+    withCreator fromDefault inheritedBit lastStep lastOf resolved entryBytes mapped inPlace fromCreator ownEntries fromParent secondPart takesSecond
+    firstPart takesFirst keptFlags pass typeApplies among anyHeritable entriesIf typesOk typesOf checkOf finish walkOf onGood headBytes render entriesOf cut
+    headerOk revOk entryOf need tailOk wordAfter headOf flagsOk kindOk objectKind objectOf plainOf identityOf placeholderOf isSid sidLen guidAt
+    sameBytes spell le
+more =
+    record {
+      placeholders = refl;
+      denied = refl;
+      type-applies = refl;
+      type-other = refl;
+      type-none = refl;
+      type-below = refl;
+      four-types = refl;
+      one-type = refl;
+      defaulted = refl;
+      rule-1 = refl;
+      rule-2 = refl;
+      default-list = refl;
+      own-only = refl;
+      refusals = refl;
+      as-it-was = refl;
+    }
+
+-- what the public call's arguments ask: each argument in its place, each setting alone
+module _ (m : Mapping) (p c d t o g : List ℕ) where
+  abbrev by : Bool → Bool → Bool → Bool → Bool → Bool → Bool → Asked
+  by parent creator default container auto defaulted protect =
+      askedBy 2 (record { parent = parent; creator = creator; default = default; container = container; auto = auto; defaulted = defaulted; protect = protect }) m p c d t o g
+
+  abbrev asks : MaybeList → MaybeList → MaybeList → Bool → Bool → Bool → Bool → Asked
+  asks parent creator default container auto defaulted protect =
+      record {
+        rule = 2;
+        parent = parent;
+        creator = creator;
+        default = default;
+        container = container;
+        types = t;
+        owner = o;
+        group = g;
+        mapping = m;
+        auto-inherit = auto;
+        default-descriptor = defaulted;
+        protected = protect;
+      }
+
+  pub arguments-worked :
+      (by true false false true false false false ≡ asks (some p) none none true false false false)
+      × ((by false true false false true false false ≡ asks none (some c) none false true false false)
+      × ((by false false true false false true false ≡ asks none none (some d) false false true false)
+      × (by false false false false false false true ≡ asks none none none false false false true)))
+  arguments-worked = (refl, (refl, (refl, refl)))
+
+-- the numbers and values of each case of an answer (RULES 4.2)
+pub values-worked : (l n c k w x : ℕ)
+    → (computedValues (Present l n c) ≡ record { number = 0; list = 0; offset = 0; length = l; present = 1; count = n; control = c })
+    × ((computedValues Absent ≡ record { number = 0; list = 0; offset = 0; length = 0; present = 0; count = 0; control = 0 })
+    × ((computedValues (Refused k w x) ≡ record { number = k; list = w; offset = x; length = 0; present = 0; count = 0; control = 0 })
+    × ((isRefusal (Present l n c) ≡ false) × ((isRefusal Absent ≡ false) × (isRefusal (Refused k w x) ≡ true)))))
+values-worked l n c k w x = (refl, (refl, (refl, (refl, (refl, refl)))))

@@ -1,24 +1,27 @@
 -- The definitions, computed: records, numbers and texts, and the script of RULES 6.7 with the whole text that it writes.
 use mathlib.Core.Path.{_≡_, refl, sym, ap, _∙_}
-use mathlib.Core.Bool.{true}
+use mathlib.Core.Bool.{true, false}
 use mathlib.Core.List.{List, [], _∷_, _++_, flatten}
 use mathlib.Core.Option.{some, none}
 use Prim.Native.Nat.{ℕ}
 use native.Mathlib.Omega.{arith}
 use lib.ListN.{length, getD, drop, replicate}
-use Rattle.list.specs.Bytes.{le, part}
+use Rattle.list.specs.Bytes.{le, part, guidAt}
+use Rattle.list.specs.Order.{need}
 use Rattle.inherit.specs.Asked.{MaybeList}
 use Rattle.inherit.proofs.Worked.{system, parentWith}
 use Rattle.tree.specs.Shown.{change, undo, listsIn}
 use Rattle.tree.specs.Model.{listOf, objectsOf}
-use Rattle.tree.specs.Calls.{list, mark, owners, nobody, alter}
+use Rattle.tree.specs.declared.Answer.the-variants.{Done, Refused}
+use Rattle.tree.specs.Formed.{countsOk, formed}
+use Rattle.tree.specs.Calls.{list, mark, owners, nobody, add, alter, copied}
 use Rattle.tree.proofs.Worked.{lists, bytes-open, entries-open, lists-open, copies-open, last-open, compute-open}
 use Rattle.tree.proofs.Trees.{model-open, calls-open}
 use Rattle.script.specs.declared.records.Found.the-variants.{Cut, Bad, Record}
 use Rattle.script.specs.Record.{nameEnd, listEnd, parentNamed, recordSize, formOk, recordAsks, stepOf}
 use Rattle.script.specs.Fold.{past, onStep, runBy, runOf, onCall, callsBy, callsOf}
 use Rattle.script.specs.Text.{digits, decimal, columnsBy, columns, line, lines, heading, listing, badLine}
-use Rattle.script.specs.Play.{mapping, scriptHeadOk, Listed, endingAfter, fresh, endingOf, textOf}
+use Rattle.script.specs.Play.{mapping, began, scriptHeadOk, Listed, BadAt, endingAfter, fresh, endingOf, textOf, endingAnswer, textTo, listingTo}
 use Rattle.script.proofs.Plays.{treeOf, listed-afresh}
 
 -- ---- records
@@ -48,6 +51,39 @@ pub asked-worked :
 unfolding le part nameEnd listEnd parentNamed recordAsks
 asked-worked = (refl, (refl, (refl, (refl, (refl, (refl, refl))))))
 
+-- an add, each field in its place
+pub add-worked :
+    recordAsks (1 ∷ 7 ∷ 0 ∷ 1 ∷ ((4 ∷ replicate 14 5) ++ (6 ∷ 1 ∷ 0x21 ∷ 2 ∷ 0x31 ∷ 0x32 ∷ 1 ∷ 0 ∷ 9 ∷ [])))
+    ≡ change
+    (add
+    (record { parent = 7; container = false; mark = true; type = (4 ∷ replicate 14 5) ++ (6 ∷ []); owner = 0x21 ∷ []; group = 0x31 ∷ 0x32 ∷ []; list = some (9 ∷ []) }))
+unfolding le part guidAt nameEnd listEnd parentNamed recordAsks
+add-worked = refl
+
+-- ---- runs: nothing, a bad record, a cut one
+
+pub runs-worked : (r : List ℕ)
+    → (runOf [] r ≡ record { used = 0; bad = false; room = r })
+    × ((runOf (6 ∷ []) r ≡ record { used = 0; bad = true; room = r }) × (runOf (3 ∷ 0 ∷ []) r ≡ record { used = 0; bad = false; room = r }))
+unfolding le nameEnd listEnd recordSize formOk stepOf onStep runBy runOf
+runs-worked r = (refl, (refl, refl))
+
+-- ---- a script's head, and the tree that it is played on
+
+pub heads-worked :
+    (endingOf (0x41 ∷ 0x58 ∷ 0x53 ∷ 1 ∷ 0 ∷ 6 ∷ []) ≡ BadAt 5)
+    × ((endingOf (0x42 ∷ 0x58 ∷ 0x53 ∷ 1 ∷ 0 ∷ 6 ∷ []) ≡ BadAt 0)
+    × ((endingOf (0x41 ∷ 0x59 ∷ 0x53 ∷ 1 ∷ 0 ∷ 6 ∷ []) ≡ BadAt 0)
+    × ((endingOf (0x41 ∷ 0x58 ∷ 0x54 ∷ 1 ∷ 0 ∷ 6 ∷ []) ≡ BadAt 0)
+    × ((endingOf (0x41 ∷ 0x58 ∷ 0x53 ∷ 2 ∷ 0 ∷ 6 ∷ []) ≡ BadAt 0)
+    × ((endingOf (0x41 ∷ 0x58 ∷ 0x53 ∷ 1 ∷ 1 ∷ 6 ∷ []) ≡ BadAt 0) × (endingOf (0x41 ∷ 0x58 ∷ 0x53 ∷ 1 ∷ []) ≡ BadAt 0))))))
+unfolding le nameEnd listEnd recordSize formOk stepOf past onStep runBy runOf scriptHeadOk endingAfter endingOf
+heads-worked = (refl, (refl, (refl, (refl, (refl, (refl, refl))))))
+
+pub began-worked :
+    began ≡ record { objects = 16; steps = 16; rule = 2; mapping = record { read = 0x00120089; write = 0x00120116; execute = 0x001200A0; all = 0x001F01FF }; default = none }
+began-worked = refl
+
 -- ---- texts
 
 pub numbers-worked :
@@ -64,6 +100,14 @@ pub texts-worked :
     × (badLine 81 ≡ 98 ∷ 97 ∷ 100 ∷ 32 ∷ 97 ∷ 116 ∷ 32 ∷ 56 ∷ 49 ∷ 10 ∷ [])
 unfolding le digits decimal columnsBy columns line lines heading listing badLine
 texts-worked = (refl, refl)
+
+-- in a lent buffer: the text on its front, its length, whether it is the listing, how many objects; 8 where it doesn't fit; 13 where there is no tree
+pub answers-worked :
+    (textTo (BadAt 0) (replicate 10 7) ≡ record { answer = Done 9 false 0; bytes = 98 ∷ 97 ∷ 100 ∷ 32 ∷ 97 ∷ 116 ∷ 32 ∷ 48 ∷ 10 ∷ 7 ∷ [] })
+    × ((textTo (BadAt 0) (replicate 8 7) ≡ record { answer = Refused 8 0 0; bytes = replicate 8 7 })
+    × ((endingAnswer (Listed (none ∷ [])) ≡ Done 19 true 1) × (listingTo [] (7 ∷ []) ≡ record { answer = Refused 13 0 0; bytes = 7 ∷ [] })))
+unfolding need formed countsOk digits decimal columnsBy columns line lines heading listing badLine textOf endingAnswer copied textTo listingTo
+answers-worked = (refl, (refl, (refl, refl)))
 
 -- ---- the script of RULES 6.7
 
