@@ -12,18 +12,19 @@ use Rattle.list.specs.Bytes.{le, spell, sameBytes, guidAt, part}
 use Rattle.list.specs.Identity.{sidLen, isSid, placeholderOf, identityOf}
 use Rattle.list.specs.Entry.{plainOf, objectOf, objectKind, kindOk, flagsOk, headOf, wordAfter, entryBytes, tailOk, entryOf}
 use Rattle.list.specs.List.{revOk, headerOk, cut, entriesOf, headBytes, render, onGood, walkOf, finish, checkOf}
-use Rattle.inherit.specs.Asked.{MaybeList, entriesIf, typesOk, typesOf}
+use Rattle.inherit.specs.Asked.{Asked, MaybeList, lent, given, entriesIf, typesOk, typesOf}
 use Rattle.inherit.specs.Copies.{anyHeritable, among, typeApplies, pass, keptFlags, takesFirst, firstPart, takesSecond, secondPart, fromParent, ownEntries, fromCreator}
 use Rattle.inherit.specs.Last.{inPlace, mapped, resolved, lastOf, lastStep}
 use Rattle.inherit.specs.Branch.{inheritedBit, withCreator, fromDefault, branch, resultOf}
-use Rattle.inherit.specs.Compute.{anyObject, withRoom, onReading, readable, ruleOk, computeOf, bytesFor}
+use Rattle.inherit.specs.Compute.{anyObject, withRoom, onReading, readable, ruleOk, computeOf, bytesFor, askedBy}
 use Rattle.inherit.proofs.Worked.{mapping, system, parentWith, inherited, listed}
 use Rattle.tree.specs.Model.{limitsOk}
 use Rattle.tree.specs.General.{bind}
 use Rattle.tree.specs.Held.{New, bytesIn, idIn, idFor, slotFor, blockFor}
 use Rattle.tree.specs.Room.{roomFor, roomOf, settingsFor}
 use Rattle.tree.specs.Formed.{formed, countsOk}
-use Rattle.tree.specs.Work.{computed}
+use Rattle.tree.specs.Work.{settingsAsked, computed}
+use Rattle.tree.specs.Calls.{listBytes}
 use Rattle.tree.proofs.Replay.{fromRoot, gather, work}
 
 -- ---- what a computation of a tree opens, layer by layer: to unfold a name here is to unfold what its line names
@@ -70,6 +71,18 @@ rooms = (refl, (refl, (refl, (refl, (refl, refl)))))
 pub nothing : formed [] ≡ false
 unfolding formed countsOk
 nothing = refl
+
+-- ---- the computation's settings
+
+lent-back : (p : MaybeList) → lent (given p) (listBytes p) ≡ p
+unfolding listBytes
+lent-back none = refl
+lent-back (some s) = refl
+
+-- what is asked, taken apart as the public call takes it, is asked again
+pub asked-again : (a : Asked)
+    → askedBy (a .rule) (settingsAsked a) (a .mapping) (listBytes (a .parent)) (listBytes (a .creator)) (listBytes (a .default)) (a .types) (a .owner) (a .group) ≡ a
+asked-again a = rw (lent-back (a .parent), lent-back (a .creator), lent-back (a .default)) refl
 
 -- ---- the tree of RULES 6.7's script
 
