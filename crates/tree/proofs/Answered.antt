@@ -2,7 +2,7 @@
 use mathlib.Core.Path.{_≡_, refl, sym, ap, _∙_}
 use mathlib.Core.Bool.{Bool, true, false, cond}
 use mathlib.Core.List.{List, [], _∷_, _++_, append-assoc}
-use mathlib.Core.Option.{none, some}
+use mathlib.Core.Option.{Option, none, some}
 use Prim.Native.Nat.{ℕ, _+_, _*_, _≤_, _<_}
 use native.Mathlib.Nat.{zero-add}
 use native.Mathlib.Omega.{arith}
@@ -17,16 +17,15 @@ use Rattle.list.specs.declared.lists.Reading.the-variants.{Done as Read, Refuse
 use Rattle.list.proofs.Answers.{ListNumber, list-number}
 use Rattle.list.proofs.Places.{length-part}
 use Rattle.list.proofs.Tests.{both-true, le-or, off}
-use Rattle.inherit.specs.declared.Mapping.{Mapping}
 use Rattle.inherit.specs.Asked.{MaybeList}
 use Rattle.inherit.specs.Compute.{ruleOk}
-use Rattle.tree.specs.Model.{shortIf, limitsOk}
+use Rattle.tree.specs.Model.{Settings, shortIf, limitsOk}
 use Rattle.tree.specs.declared.Answer.{Answer}
 use Rattle.tree.specs.Held.{isDone, idIn, ownerOf, groupOf}
 use Rattle.tree.specs.Room.{objectLimit, objects, ownData, roomFor, roomOf, settingsFor, emptyRoom}
 use Rattle.tree.specs.Formed.{Head, placedIn, formed}
 use Rattle.list.specs.Order.{need}
-use Rattle.tree.specs.Calls.{Outcome, refuse, onReadingTo, readableTo, onObject, nobody, toldAs, startOk, listBytes, copied, dataOf}
+use Rattle.tree.specs.Calls.{Outcome, refuse, onReadingTo, readableTo, onObject, toldAs, startOk, listBytes, copied, dataOf}
 use Rattle.tree.specs.Inner.Faults.{objectFault, addFault, faultBy, faultOf}
 use Rattle.tree.proofs.Replay.{reads}
 use Rattle.tree.proofs.Tested.{head-says, formed-parts}
@@ -130,9 +129,9 @@ module _ (r : List ℕ) (i : ℕ) where
 -- ---- add: the room, the parent, and place for one object more
 
 -- what the three tests say
-pub record Addable (r : List ℕ) (p : ℕ) : Type 0 where
+pub record Addable (r : List ℕ) (p : Option ℕ) : Type 0 where
   pub is-formed : formed r ≡ true
-  pub is-placed : placedIn nobody (λ j. ownData j r) (objects r) p ≡ true
+  pub is-placed : placedIn (λ j. ownData j r) (objects r) p ≡ true
   pub below : objects r < objectLimit r
   pub limit-64 : objectLimit r ≤ 64
 
@@ -159,21 +158,21 @@ three-true true true false h = absurd (omega arith)
 three-true true false d h = absurd (omega arith)
 three-true false b d h = absurd (omega arith)
 
-module _ (r : List ℕ) (p : ℕ) where
+module _ (r : List ℕ) (p : Option ℕ) where
   pub add-good : (x : List ℕ) (rest : Outcome) → addFault r p ≡ 0
-      → need (formed r) (refuse 13 0 0 x) (need (placedIn nobody (λ j. ownData j r) (objects r) p) (refuse 9 0 0 x) (need (ltb (objects r) (objectLimit r)) (refuse 10 0 0 x) rest)) ≡ rest
+      → need (formed r) (refuse 13 0 0 x) (need (placedIn (λ j. ownData j r) (objects r) p) (refuse 9 0 0 x) (need (ltb (objects r) (objectLimit r)) (refuse 10 0 0 x) rest)) ≡ rest
   unfolding addFault
-  add-good x rest h = three-good (formed r) (placedIn nobody (λ j. ownData j r) (objects r) p) (ltb (objects r) (objectLimit r)) x rest h
+  add-good x rest h = three-good (formed r) (placedIn (λ j. ownData j r) (objects r) p) (ltb (objects r) (objectLimit r)) x rest h
 
   pub add-bad : (x : List ℕ) (rest : Outcome) → (addFault r p ≡ 0 → ⊥)
-      → need (formed r) (refuse 13 0 0 x) (need (placedIn nobody (λ j. ownData j r) (objects r) p) (refuse 9 0 0 x) (need (ltb (objects r) (objectLimit r)) (refuse 10 0 0 x) rest)) ≡ refuse (addFault r p) 0 0 x
+      → need (formed r) (refuse 13 0 0 x) (need (placedIn (λ j. ownData j r) (objects r) p) (refuse 9 0 0 x) (need (ltb (objects r) (objectLimit r)) (refuse 10 0 0 x) rest)) ≡ refuse (addFault r p) 0 0 x
   unfolding addFault
-  add-bad x rest h = three-bad (formed r) (placedIn nobody (λ j. ownData j r) (objects r) p) (ltb (objects r) (objectLimit r)) x rest h
+  add-bad x rest h = three-bad (formed r) (placedIn (λ j. ownData j r) (objects r) p) (ltb (objects r) (objectLimit r)) x rest h
 
   pub add-facts : addFault r p ≡ 0 → Addable r p
   unfolding addFault
   add-facts h =
-      let q = three-true (formed r) (placedIn nobody (λ j. ownData j r) (objects r) p) (ltb (objects r) (objectLimit r)) h in
+      let q = three-true (formed r) (placedIn (λ j. ownData j r) (objects r) p) (ltb (objects r) (objectLimit r)) h in
       record { is-formed = q .0; is-placed = q .1 .0; below = ltb-true (objects r) (objectLimit r) (q .1 .1); limit-64 = formed-head r (q .0) .limit-64 }
 
 -- ---- start
@@ -227,17 +226,20 @@ unfolding putAt
 put-front b d = rw zero-add
 
 -- an empty room, as the code lays it
-pub empty-laid : (n s rule : ℕ) (m : Mapping) (o : MaybeList) (r l₁ l₂ : List ℕ) → shortIf o ≡ true → roomFor n s ≤ length r
-    → l₁ ≡ putAt 4 (settingsFor rule m o) (set (set (set (set r 0 n) 1 s) 2 0) 3 0)
-    → l₂ ≡ putAt 1048 (replicate (n * 2211 + s * 1186) 0) l₁
-    → l₂ ≡ front (emptyRoom n s rule m o) r
+pub empty-laid : (t : Settings) (r l₁ l₂ : List ℕ) → shortIf (t .default) ≡ true → roomFor (t .object-limit) (t .step-limit) ≤ length r
+    → l₁ ≡ putAt 4 (settingsFor (t .rule) (t .mapping) (t .default)) (set (set (set (set r 0 (t .object-limit)) 1 (t .step-limit)) 2 0) 3 0)
+    → l₂ ≡ putAt 1048 (replicate (t .object-limit * 2211 + t .step-limit * 1186) 0) l₁
+    → l₂ ≡ front (emptyRoom t) r
 unfolding emptyRoom
-empty-laid n s rule m o r l₁ l₂ h k e₁ e₂ =
+empty-laid t r l₁ l₂ h k e₁ e₂ =
+    let n = t .object-limit in
+    let s = t .step-limit in
+    let x : List ℕ = settingsFor (t .rule) (t .mapping) (t .default) in
     let z : List ℕ = replicate (n * 2211 + s * 1186) 0 in
     let w = write-next 0 (write-next 0 (write-next s (write-one 0 n r (omega arith)) (omega arith)) (omega arith)) (omega arith) in
-    let w₁ = write-more 1044 (settingsFor rule m o) l₁ w (length-settings rule m o h) (omega arith) e₁ in
+    let w₁ = write-more 1044 x l₁ w (length-settings (t .rule) (t .mapping) (t .default) h) (omega arith) e₁ in
     let w₂ = write-more (n * 2211 + s * 1186) z l₂ w₁ (length-replicate (n * 2211 + s * 1186) 0) (omega arith) e₂ in
-    w₂ .is ∙ ap (λ (b : List ℕ). putAt 0 b r) (append-assoc (n ∷ s ∷ 0 ∷ 0 ∷ []) (settingsFor rule m o) z) ∙ put-front _ r
+    w₂ .is ∙ ap (λ (b : List ℕ). putAt 0 b r) (append-assoc (n ∷ s ∷ 0 ∷ 0 ∷ []) x z) ∙ put-front _ r
 
 -- ---- reading back
 

@@ -60,7 +60,7 @@ module _ (r : List ℕ) (h : Head r) where
           long = omega arith;
           some-limit = rw e₀ (h .some-limit);
           limit-64 = rw e₀ (h .limit-64);
-          depth-64 = rw e₁ (h .depth-64);
+          steps-64 = rw e₁ (h .steps-64);
           within = rw (e₀, e₂) (h .within);
           kept-within = rw (e₁, e₃) (h .kept-within);
           room-enough = rw (e₀, e₁) (omega arith);

@@ -16,19 +16,19 @@ use Rattle.list.proofs.Places.{split, length-part, length-put, part-put-before,
 use Rattle.tree.specs.General.{tab}
 use Rattle.tree.specs.Held.{held, slotOk}
 use Rattle.tree.specs.Room.{objectLimit, stepLimit, objects, keptSteps, ownAt, stepsAt, settings, ownData, slot, step, stepObject, stepData}
-use Rattle.tree.specs.Calls.{pushed, popped, reworkedWith, changed, latest, standingAfter, stepTakenBack}
+use Rattle.tree.specs.Calls.{Put, stepKept, stepGone, reworkedWith, changed, latest, standingAfter, stepTakenBack}
 use Rattle.tree.proofs.Tab.{tab-ext}
 use Rattle.tree.proofs.Paths.{inOrder}
 use Rattle.tree.proofs.Applied.{upd, ahead}
 use Rattle.tree.proofs.Areas.{Ready}
-use Rattle.tree.proofs.Shifts.{Aside, Pushed, Popped, is-pushed, is-popped, part-set}
+use Rattle.tree.proofs.Stepping.{Aside, OneMore, OneLess, one-more, one-less, part-set}
 use Rattle.tree.proofs.Reworks.{Worked, Linked, linked, settings-stay, own-stays}
 
 -- w₃ is w with n objects whose own data is f, their lists worked out from it, and the k steps g
 pub record Became (w w₃ : List ℕ) (n : ℕ) (f : ℕ → List ℕ) (k : ℕ) (g : ℕ → List ℕ) : Type 0 where
   pub size : length w₃ ≡ length w
   pub limits : objectLimit w₃ ≡ objectLimit w
-  pub depths : stepLimit w₃ ≡ stepLimit w
+  pub step-limits : stepLimit w₃ ≡ stepLimit w
   pub count : objects w₃ ≡ n
   pub steps : keptSteps w₃ ≡ k
   pub same-settings : settings w₃ ≡ settings w
@@ -116,7 +116,7 @@ module _
   worked-became m g e s w₃ k = record {
     size = k .size ∙ written-size;
     limits = head-byte w₃ k 0 (inl (omega arith)) (omega arith) ∙ byte-same 0 w₁ w (same 0 1 (inl (omega arith), omega arith));
-    depths = head-byte w₃ k 1 (inl (omega arith)) (omega arith) ∙ byte-same 1 w₁ w (same 1 1 (inl (omega arith), omega arith));
+    step-limits = head-byte w₃ k 1 (inl (omega arith)) (omega arith) ∙ byte-same 1 w₁ w (same 1 1 (inl (omega arith), omega arith));
     count = byte-same 2 w₃ (written i at b n w₁) (k .rest 2 1 (λ j q. inl (omega arith))) ∙ written-count;
     steps = head-byte w₃ k 3 (inr (omega arith)) (omega arith) ∙ e;
     same-settings = settings-stay n (written i at b n w₁) w₃ k ∙ written-settings;
@@ -141,31 +141,38 @@ module _
 
 -- ---- a change
 
-module _ (w : List ℕ) (ready : Ready w) (tag i at : ℕ) (b : List ℕ) (n : ℕ) (hi : i < objectLimit w) (hn : n ≤ objectLimit w) (fits : at + length b ≤ 1184) where
-  keeps : Pushed (tag ∷ i ∷ ownData i w) w (pushed (tag ∷ i ∷ ownData i w) w)
+-- the step that it keeps, and own data of each object afterwards
+abbrev pub stepOf : Put → List ℕ → List ℕ
+stepOf p w = p .tag ∷ p .object ∷ ownData (p .object) w
+
+abbrev pub ownOf : Put → List ℕ → ℕ → List ℕ
+ownOf p w = upd (p .object) (putAt (p .place) (p .bytes) (ownData (p .object) w)) (λ j. ownData j w)
+
+module _ (w : List ℕ) (ready : Ready w) (p : Put) (hi : p .object < objectLimit w) (hn : p .standing ≤ objectLimit w) (fits : p .place + length (p .bytes) ≤ 1184) where
+  keeps : OneMore (stepOf p w) w (stepKept (stepOf p w) w)
   unfolding ownData
-  keeps = is-pushed (tag ∷ i ∷ ownData i w) w ready (let l = length-part (ownAt i) 1184 w (omega arith) in omega arith)
+  keeps = one-more w ready (stepOf p w) (let l = length-part (ownAt (p .object)) 1184 w (omega arith) in omega arith)
 
   keeps-steps : (j : ℕ) → j < min (stepLimit w) (suc (keptSteps w))
-      → step (objectLimit w) j (pushed (tag ∷ i ∷ ownData i w) w) ≡ ahead (tag ∷ i ∷ ownData i w) (λ m. step (objectLimit w) m w) j
+      → step (objectLimit w) j (stepKept (stepOf p w) w) ≡ ahead (stepOf p w) (λ m. step (objectLimit w) m w) j
   unfolding ahead
   keeps-steps zero h = keeps .first (omega arith)
   keeps-steps (suc j) h = keeps .later j (omega arith)
 
-  pub change-became : (w₃ : List ℕ) → changed tag i at b n w ≡ some w₃
-      → Became w w₃ n (upd i (putAt at b (ownData i w)) (λ j. ownData j w)) (min (stepLimit w) (suc (keptSteps w))) (ahead (tag ∷ i ∷ ownData i w) (λ j. step (objectLimit w) j w))
+  pub change-became : (w₃ : List ℕ) → changed p w ≡ some w₃
+      → Became w w₃ (p .standing) (ownOf p w) (min (stepLimit w) (suc (keptSteps w))) (ahead (stepOf p w) (λ j. step (objectLimit w) j w))
   unfolding changed
-  change-became = settled-became w _ ready (keeps .same) (keeps .size) i at b n hi hn fits _ _ (keeps .count) keeps-steps
+  change-became = settled-became w _ ready (keeps .same) (keeps .size) (p .object) (p .place) (p .bytes) (p .standing) hi hn fits _ _ (keeps .count) keeps-steps
 
-  pub change-refused : changed tag i at b n w ≡ none → inOrder (settings w) (tab n (upd i (putAt at b (ownData i w)) (λ j. ownData j w))) n ≡ none
+  pub change-refused : changed p w ≡ none → inOrder (settings w) (tab (p .standing) (ownOf p w)) (p .standing) ≡ none
   unfolding changed
-  change-refused = settled-refused w _ ready (keeps .same) (keeps .size) i at b n hi hn fits
+  change-refused = settled-refused w _ ready (keeps .same) (keeps .size) (p .object) (p .place) (p .bytes) (p .standing) hi hn fits
 
 -- ---- an undo
 
 module _ (w : List ℕ) (ready : Ready w) (p : 0 < keptSteps w) (hi : stepObject (latest w) < objectLimit w) (hn : standingAfter w ≤ objectLimit w) where
-  takes : Popped w (popped w)
-  takes = is-popped w ready p
+  takes : OneLess w (stepGone w)
+  takes = one-less w ready p
 
   saved-length : length (stepData (latest w)) ≡ 1184
   unfolding step
@@ -180,7 +187,7 @@ module _ (w : List ℕ) (ready : Ready w) (p : 0 < keptSteps w) (hi : stepObject
       let l = length-part (ownAt (stepObject (latest w))) 1184 w (omega arith) in
       put-whole (stepData (latest w)) (ownData (stepObject (latest w)) w) (saved-length ∙ sym l)
 
-  undone-as : stepTakenBack w ≡ reworkedWith (ownAt (stepObject (latest w)) + 0) (stepData (latest w)) (standingAfter w) (popped w)
+  undone-as : stepTakenBack w ≡ reworkedWith (ownAt (stepObject (latest w)) + 0) (stepData (latest w)) (standingAfter w) (stepGone w)
   unfolding stepTakenBack
   undone-as = rw (add-zero (ownAt (stepObject (latest w))))
 

@@ -2,7 +2,7 @@
 use mathlib.Core.Path.{_≡_, refl, ap, _∙_}
 use mathlib.Core.Bool.{Bool, true, false, cond}
 use mathlib.Core.List.{List, [], _∷_, _++_}
-use Prim.Native.Nat.{ℕ, _+_, _≤_, min}
+use Prim.Native.Nat.{ℕ, _+_, _≤_}
 use native.Mathlib.Omega.{arith}
 use lib.ListN.{length, take, drop, replicate, length-append, length-replicate, length-drop}
 use lib.Seq.{take-at, take-all, drop-append-add, length-take-le}
@@ -12,9 +12,9 @@ use Rattle.list.specs.Bytes.{part, guidAt}
 use Rattle.list.proofs.Tests.{both-true}
 use Rattle.inherit.specs.Asked.{MaybeList}
 use Rattle.inherit.specs.Compute.{ordinary}
-use Rattle.tree.specs.Model.{shortIf}
+use Rattle.tree.specs.Model.{Object, parentByte, shortIf}
 use Rattle.tree.specs.Held.{held, slotFor, slotOk, idIn, idFor, idOk, parentByteIn, kindByte, markByte, typeOf, ownerOf, groupOf, ownSlot, ownList}
-use Rattle.tree.specs.Held.{blockOk, New, yes, blockFor}
+use Rattle.tree.specs.Held.{blockOk, yes, blockFor}
 use Rattle.tree.proofs.Replay.{reads}
 use Rattle.tree.proofs.Lays.{length-slot}
 use Rattle.tree.proofs.Slots.{held-slot, slot-good, id-length, id-held, id-good}
@@ -110,44 +110,41 @@ length-guid s at = by (leb (at + 16) (length s)) refl
     by true e = length-take-le 16 (drop at s) (rw length-drop (omega (arith, leb-true (at + 16) (length s) e)))
     by false e = length-replicate {A = ℕ} 16 0
 
-module _ (new : New) (o : ordinary (new .owner) ≡ true) (g : ordinary (new .group) ≡ true) (s : shortIf (new .list) ≡ true) where
-  new-laid : Laid (blockFor new) (min 255 (new .parent)) (yes (new .container)) (yes (new .mark)) (guidAt (new .type) 0) (idFor (new .owner))
-      (idFor (new .group)) (slotFor (new .list))
+module _ (x : Object) (t : length (x .type) ≡ 16) (o : ordinary (x .owner) ≡ true) (g : ordinary (x .group) ≡ true) (s : shortIf (x .list) ≡ true) where
+  new-laid : Laid (blockFor x) (parentByte (x .parent)) (yes (x .container)) (yes (x .mark)) (x .type) (idFor (x .owner)) (idFor (x .group)) (slotFor (x .list))
   unfolding blockFor
   new-laid =
-      let t = length-guid (new .type) 0 in
-      let lo = id-length (new .owner) o in
-      let lg = id-length (new .group) g in
-      let ls = length-slot (new .list) s in
-      let h = min 255 (new .parent) ∷ yes (new .container) ∷ yes (new .mark) ∷ [] in
-      let c = slotFor (new .list) in
-      let d = idFor (new .group) ++ c in
-      let e = idFor (new .owner) ++ d in
-      let f = guidAt (new .type) 0 ++ e in
+      let lo = id-length (x .owner) o in
+      let lg = id-length (x .group) g in
+      let ls = length-slot (x .list) s in
+      let h = parentByte (x .parent) ∷ yes (x .container) ∷ yes (x .mark) ∷ [] in
+      let c = slotFor (x .list) in
+      let d = idFor (x .group) ++ c in
+      let e = idFor (x .owner) ++ d in
+      let f = x .type ++ e in
       let l : length (h ++ f) ≡ 1184 = simp length-append (omega arith) in
       record {
         long = l;
         parent = refl;
         kind = refl;
         mark = refl;
-        type = type-part (h ++ f) (omega arith) ∙ part-past 3 0 16 h f refl ∙ part-first 16 (guidAt (new .type) 0) e t;
-        owner = part-past 3 16 69 h f refl ∙ part-past 16 0 69 (guidAt (new .type) 0) e t ∙ part-first 69 (idFor (new .owner)) d lo;
+        type = type-part (h ++ f) (omega arith) ∙ part-past 3 0 16 h f refl ∙ part-first 16 (x .type) e t;
+        owner = part-past 3 16 69 h f refl ∙ part-past 16 0 69 (x .type) e t ∙ part-first 69 (idFor (x .owner)) d lo;
         group =
             part-past 3 85 69 h f refl
-            ∙ part-past 16 69 69 (guidAt (new .type) 0) e t
-            ∙ part-past 69 0 69 (idFor (new .owner)) d lo
-            ∙ part-first 69 (idFor (new .group)) c lg;
+            ∙ part-past 16 69 69 (x .type) e t
+            ∙ part-past 69 0 69 (idFor (x .owner)) d lo
+            ∙ part-first 69 (idFor (x .group)) c lg;
         slot =
             part-past 3 154 1027 h f refl
-            ∙ part-past 16 138 1027 (guidAt (new .type) 0) e t
-            ∙ part-past 69 69 1027 (idFor (new .owner)) d lo
-            ∙ part-past 69 0 1027 (idFor (new .group)) c lg
+            ∙ part-past 16 138 1027 (x .type) e t
+            ∙ part-past 69 69 1027 (idFor (x .owner)) d lo
+            ∙ part-past 69 0 1027 (idFor (x .group)) c lg
             ∙ part-all 1027 c ls;
       }
 
-  pub new-shows : Shows (blockFor new) (min 255 (new .parent)) (yes (new .container)) (yes (new .mark)) (guidAt (new .type) 0) (new .owner) (new .group)
-      (new .list)
-  new-shows = laid-shows new-laid (id-held (new .owner) o) (id-held (new .group) g) (held-slot (new .list) s)
+  pub new-shows : Shows (blockFor x) (parentByte (x .parent)) (yes (x .container)) (yes (x .mark)) (x .type) (x .owner) (x .group) (x .list)
+  new-shows = laid-shows new-laid (id-held (x .owner) o) (id-held (x .group) g) (held-slot (x .list) s)
 
-  pub new-good : reads (new .list) ≡ true → blockOk (blockFor new) ≡ true
-  new-good r = laid-good new-laid (yes-bit (new .container)) (yes-bit (new .mark)) (id-good (new .owner) o) (id-good (new .group) g) (slot-good (new .list) s r)
+  pub new-good : reads (x .list) ≡ true → blockOk (blockFor x) ≡ true
+  new-good r = laid-good new-laid (yes-bit (x .container)) (yes-bit (x .mark)) (id-good (x .owner) o) (id-good (x .group) g) (slot-good (x .list) s r)

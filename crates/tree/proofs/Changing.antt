@@ -4,7 +4,7 @@ use mathlib.Core.Bool.{Bool, true, false}
 use mathlib.Core.List.{List}
 use mathlib.Core.Option.{Option, none, some}
 use mathlib.Core.Logic.{_⊎_, inl, inr}
-use Prim.Native.Nat.{ℕ, suc, _+_, _-_, _≤_, _<_}
+use Prim.Native.Nat.{ℕ, suc, _+_, _-_, _≤_, _<_, min}
 use native.Mathlib.Omega.{arith}
 use lib.ListN.{length}
 use borrow.Author.Tests.{lt-ltb, le-ltb}
@@ -13,19 +13,20 @@ use Rattle.list.proofs.Places.{part-most, put-whole}
 use Rattle.list.proofs.Writes.{put-all}
 use Rattle.inherit.specs.Asked.{MaybeList}
 use Rattle.inherit.specs.Compute.{ordinary}
-use Rattle.tree.specs.Model.{shortIf}
+use Rattle.tree.specs.Model.{Object, parentByte, shortIf}
 use Rattle.tree.specs.declared.Answer.{Answer}
 use Rattle.tree.specs.declared.Answer.the-variants.{Done, Refused}
 use Rattle.tree.specs.declared.tests.Fault.{Fault}
-use Rattle.tree.specs.Held.{New, held, blockFor}
+use Rattle.tree.specs.Held.{held, parentIn, blockFor}
 use Rattle.tree.specs.Room.{objectLimit, objects, keptSteps, ownAt, ownData, slot, step, stepObject, area}
 use Rattle.tree.specs.Formed.{Head, standing, formed}
 use Rattle.list.specs.Order.{need}
-use Rattle.tree.specs.Calls.{Promised, Outcome, refuse, readableTo, toldAs, popped, reworkedWith, changed, latest, stepTakenBack, changeEnds, undoEnds, Edit}
-use Rattle.tree.specs.Calls.{list, mark, owners, editAt, editBytes, tested, addTo, alterTo, undoTo}
+use Rattle.tree.specs.Calls.{Promised, Outcome, refuse, readableTo, toldAs, stepGone, reworkedWith, changed, latest, stepTakenBack, changeEnds, undoEnds, changeTo, Put, Edit}
+use Rattle.tree.specs.Calls.{nobody, list, mark, owners, editAt, editBytes, editPut, addPut, tested, addTo, alterTo, undoTo}
 use Rattle.tree.specs.Inner.Faults.{objectFault, addFault, faultOf}
 use Rattle.tree.proofs.Tested.{head-says, Forms, formed-parts, standing-most}
 use Rattle.tree.proofs.Applied.{Adds, Again, step-facts, steps-off}
+use Rattle.tree.proofs.Turns.{placed-byte}
 use Rattle.tree.proofs.Numbers.{add-promised, alter-promised, undo-promised}
 use Rattle.tree.proofs.Answered.{settle, need-yes, need-no, formed-head, readable-good, readable-bad, on-object-good, on-object-bad}
 use Rattle.tree.proofs.Answered.{object-facts, add-good, add-bad, add-facts}
@@ -72,7 +73,7 @@ module _ (r : List ℕ) (h : Head r) (n c j m : ℕ) (u b : List ℕ) (en : n �
       let l : length b ≤ 1184 = rw eb (part-most 2 1184 u) in
       (omega arith, (q, l))
 
-  pub undone-is : (w : List ℕ) → 0 < keptSteps r → w ≡ popped (area r) → reworkedWith (ownAt j) b m w ≡ stepTakenBack (area r)
+  pub undone-is : (w : List ℕ) → 0 < keptSteps r → w ≡ stepGone (area r) → reworkedWith (ownAt j) b m w ≡ stepTakenBack (area r)
   unfolding stepTakenBack
   undone-is w k e =
       let z : latest (area r) ≡ u = latest-area r h k ∙ latest-is in
@@ -143,7 +144,7 @@ module _ (i : ℕ) (e : Edit) (r : List ℕ) (k : ℕ) (q : k ≡ objectFault r 
   alter-no a n f = alter-promised r i e (settle (on-object-bad r i r _ (λ z. n (q ∙ z))) (f ∙ ap (λ (j : ℕ). Refused j 0 0) q) refl)
 
   module _ (z : k ≡ 0) where
-    alter-goes : alterTo i e r ≡ tested e r (changeEnds i r (changed 2 i (editAt e) (editBytes e) (objects r) (area r)))
+    alter-goes : alterTo i e r ≡ tested e r (changeTo (editPut i e (objects r)) r)
     unfolding alterTo
     alter-goes = on-object-good r i r _ (sym q ∙ z)
 
@@ -152,7 +153,7 @@ module _ (i : ℕ) (e : Edit) (r : List ℕ) (k : ℕ) (q : k ≡ objectFault r 
     alter-refused a j which at t f = alter-promised r i e (settle (alter-goes ∙ t _) f refl)
 
     pub alter-done : (n at : ℕ) (b r₁ : List ℕ) (a : Answer) → ((rest : Outcome) → tested e r rest ≡ rest) → n ≡ objects r → at ≡ editAt e → b ≡ editBytes e
-        → (a ≡ changeEnds i r (changed 2 i at b n (area r)) .answer) × (r₁ ≡ changeEnds i r (changed 2 i at b n (area r)) .bytes)
+        → let p : Put = record { tag = 2; object = i; place = at; bytes = b; standing = n } in (a ≡ changeTo p r .answer) × (r₁ ≡ changeTo p r .bytes)
         → Promised (alterTo i e r) a r₁
     alter-done n at b r₁ a t en ea eb h = alter-promised r i e (settle (alter-goes ∙ t _ ∙ rw (en, ea, eb)) (h .0) (h .1))
 
@@ -165,54 +166,60 @@ alter-asks r i k n q z e =
 
 -- ---- what add answers
 
-module _ (new : New) (r : List ℕ) (k : ℕ) (q : k ≡ addFault r (new .parent)) where
-  pub add-no : (a : Answer) → (k ≡ 0 → ⊥) → a ≡ Refused k 0 0 → Promised (addTo new r) a r
+module _ (o : Object) (r : List ℕ) (k : ℕ) (q : k ≡ addFault r (o .parent)) where
+  pub add-no : (a : Answer) → (k ≡ 0 → ⊥) → a ≡ Refused k 0 0 → Promised (addTo o r) a r
   unfolding addTo
-  add-no a n f = add-promised r new (settle (add-bad r (new .parent) r _ (λ z. n (q ∙ z))) (f ∙ ap (λ (j : ℕ). Refused j 0 0) q) refl)
+  add-no a n f = add-promised r o (settle (add-bad r (o .parent) r _ (λ z. n (q ∙ z))) (f ∙ ap (λ (j : ℕ). Refused j 0 0) q) refl)
 
   module _ (z : k ≡ 0) where
-    add-goes : addTo new r
-        ≡ readableTo (new .list) 2 r
-        (need (ordinary (new .owner)) (refuse 6 0 0 r)
-        (need (ordinary (new .group)) (refuse 6 0 0 r)
-        (need (shortIf (new .list)) (refuse 8 0 0 r)
-        (changeEnds (objects r) r (changed 1 (objects r) 0 (blockFor new) (objects r + 1) (area r))))))
+    add-goes : addTo o r
+        ≡ readableTo (o .list) 2 r
+        (need (ordinary (o .owner)) (refuse 6 0 0 r)
+        (need (ordinary (o .group)) (refuse 6 0 0 r)
+        (need (shortIf (o .list)) (refuse 8 0 0 r)
+        (changeTo (addPut o (objects r)) r))))
     unfolding addTo
-    add-goes = add-good r (new .parent) r _ (sym q ∙ z)
+    add-goes = add-good r (o .parent) r _ (sym q ∙ z)
 
-    module _ (f : Fault) (e : f ≡ faultOf (new .list)) where
-      pub add-list : (f .number ≡ 0 → ⊥) → Promised (addTo new r) (Refused (f .number) 2 (f .offset)) r
-      add-list h = add-promised r new (settle (add-goes ∙ readable-bad (new .list) 2 r _ (rw e at h)) (rw e refl) refl)
+    module _ (f : Fault) (e : f ≡ faultOf (o .list)) where
+      pub add-list : (f .number ≡ 0 → ⊥) → Promised (addTo o r) (Refused (f .number) 2 (f .offset)) r
+      add-list h = add-promised r o (settle (add-goes ∙ readable-bad (o .list) 2 r _ (rw e at h)) (rw e refl) refl)
 
       module _ (h : f .number ≡ 0) where
-        add-reads : addTo new r
-            ≡ need (ordinary (new .owner)) (refuse 6 0 0 r)
-            (need (ordinary (new .group)) (refuse 6 0 0 r)
-            (need (shortIf (new .list)) (refuse 8 0 0 r)
-            (changeEnds (objects r) r (changed 1 (objects r) 0 (blockFor new) (objects r + 1) (area r)))))
-        add-reads = add-goes ∙ readable-good (new .list) 2 r _ (rw e at h)
+        add-reads : addTo o r
+            ≡ need (ordinary (o .owner)) (refuse 6 0 0 r)
+            (need (ordinary (o .group)) (refuse 6 0 0 r)
+            (need (shortIf (o .list)) (refuse 8 0 0 r)
+            (changeTo (addPut o (objects r)) r)))
+        add-reads = add-goes ∙ readable-good (o .list) 2 r _ (rw e at h)
 
-        pub add-owner : (a : Answer) → ordinary (new .owner) ≡ false → a ≡ Refused 6 0 0 → Promised (addTo new r) a r
-        add-owner a o t = add-promised r new (settle (add-reads ∙ need-no 6 r _ o) t refl)
+        pub add-owner : (a : Answer) → ordinary (o .owner) ≡ false → a ≡ Refused 6 0 0 → Promised (addTo o r) a r
+        add-owner a n t = add-promised r o (settle (add-reads ∙ need-no 6 r _ n) t refl)
 
-        module _ (o : ordinary (new .owner) ≡ true) where
-          pub add-group : (a : Answer) → ordinary (new .group) ≡ false → a ≡ Refused 6 0 0 → Promised (addTo new r) a r
-          add-group a g t = add-promised r new (settle (add-reads ∙ need-yes 6 r _ o ∙ need-no 6 r _ g) t refl)
+        module _ (ho : ordinary (o .owner) ≡ true) where
+          pub add-group : (a : Answer) → ordinary (o .group) ≡ false → a ≡ Refused 6 0 0 → Promised (addTo o r) a r
+          add-group a g t = add-promised r o (settle (add-reads ∙ need-yes 6 r _ ho ∙ need-no 6 r _ g) t refl)
 
-          module _ (g : ordinary (new .group) ≡ true) where
-            pub add-long : (a : Answer) → shortIf (new .list) ≡ false → a ≡ Refused 8 0 0 → Promised (addTo new r) a r
-            add-long a s t = add-promised r new (settle (add-reads ∙ need-yes 6 r _ o ∙ need-yes 6 r _ g ∙ need-no 8 r _ s) t refl)
+          module _ (hg : ordinary (o .group) ≡ true) where
+            pub add-long : (a : Answer) → shortIf (o .list) ≡ false → a ≡ Refused 8 0 0 → Promised (addTo o r) a r
+            add-long a s t = add-promised r o (settle (add-reads ∙ need-yes 6 r _ ho ∙ need-yes 6 r _ hg ∙ need-no 8 r _ s) t refl)
 
-            pub add-done : (n : ℕ) (b r₁ : List ℕ) (a : Answer) → shortIf (new .list) ≡ true → n ≡ objects r → b ≡ blockFor new
-                → (a ≡ changeEnds n r (changed 1 n 0 b (n + 1) (area r)) .answer) × (r₁ ≡ changeEnds n r (changed 1 n 0 b (n + 1) (area r)) .bytes)
-                → Promised (addTo new r) a r₁
-            add-done n b r₁ a s en eb t = add-promised r new (settle (add-reads ∙ need-yes 6 r _ o ∙ need-yes 6 r _ g ∙ need-yes 8 r _ s ∙ rw (en, eb)) (t .0) (t .1))
+            pub add-done : (n : ℕ) (b r₁ : List ℕ) (a : Answer) → shortIf (o .list) ≡ true → n ≡ objects r → b ≡ blockFor o
+                → let p : Put = record { tag = 1; object = n; place = 0; bytes = b; standing = n + 1 } in (a ≡ changeTo p r .answer) × (r₁ ≡ changeTo p r .bytes)
+                → Promised (addTo o r) a r₁
+            add-done n b r₁ a s en eb t = add-promised r o (settle (add-reads ∙ need-yes 6 r _ ho ∙ need-yes 6 r _ hg ∙ need-yes 8 r _ s ∙ rw (en, eb)) (t .0) (t .1))
 
 -- what the change asks of the room
-pub add-asks : (r : List ℕ) (p k n : ℕ) → k ≡ addFault r p → k ≡ 0 → n ≡ objects r → Head r × ((n < objectLimit r) × (n + 1 ≤ objectLimit r))
+pub add-asks : (r : List ℕ) (p : Option ℕ) (k n : ℕ) → k ≡ addFault r p → k ≡ 0 → n ≡ objects r → Head r × ((n < objectLimit r) × (n + 1 ≤ objectLimit r))
 add-asks r p k n q z e =
     let f = add-facts r p (sym q ∙ z) in
     (formed-head r (f .is-formed), (omega (arith, f .below), omega (arith, f .below)))
+
+-- the parent's number as own data has it
+pub add-parent : (r : List ℕ) (p k : ℕ) → k ≡ addFault r (parentIn nobody p) → k ≡ 0 → parentByte (parentIn nobody p) ≡ min 255 p
+add-parent r p k q z =
+    let f = add-facts r (parentIn nobody p) (sym q ∙ z) in
+    placed-byte (λ j. ownData j r) (objects r) nobody p (omega arith) (omega (arith, f .below, f .limit-64)) (f .is-placed)
 
 -- ---- what undo answers
 

@@ -14,7 +14,7 @@ use Rattle.list.specs.Answer.{Values, done, refused}
 use Rattle.list.proofs.Tests.{both-true, off}
 use Rattle.inherit.specs.Asked.{MaybeList}
 use Rattle.inherit.specs.Compute.{ruleOk}
-use Rattle.tree.specs.Model.{shortIf, limitsOk}
+use Rattle.tree.specs.Model.{Settings, shortIf, limitsOk}
 use Rattle.tree.specs.declared.Answer.{Answer}
 use Rattle.tree.specs.declared.Answer.the-variants.{Done, Refused}
 use Rattle.tree.specs.General.{isSome, rest, bind}
@@ -26,13 +26,13 @@ use Rattle.tree.proofs.History.{Call as Step, edit, undo as take-back, 
 use Rattle.tree.proofs.Replay.{reads, rules, work, shown}
 use Rattle.tree.proofs.Played.{callTo, accepted, played}
 use Rattle.tree.specs.Model as Model
-use Rattle.tree.specs.Shown.{Begin, settingsIn, settingsFrom, objectsIn, changeMeant, Request, start, change, undo, read, counts, meant, startWith, changeWith, readWith, callOn, answerTo, playedOn}
+use Rattle.tree.specs.Shown.{settingsIn, settingsFrom, objectsIn, changeMeant, Request, start, change, undo, read, counts, meant, changeWith, readWith, callOn, answerTo, playedOn}
 use Rattle.tree.proofs.Tab.{getD-tab}
 use Rattle.tree.proofs.Settings.{rule-of, mapping-of, default-of}
 use Rattle.tree.proofs.Keeps.{Formed, formed-facts}
 use Rattle.tree.proofs.Answered.{start-facts}
 use Rattle.tree.proofs.Plays.{Passes, on, stop, then, need-first, reads-first, call-ends}
-use Rattle.tree.proofs.Reaches.{Reached, Begun, begun, start-stays, reaches, keeps}
+use Rattle.tree.proofs.Reaches.{settingsBytes, Reached, Begun, begun, start-stays, reaches, keeps}
 use Rattle.tree.proofs.Likeness.{Good, objectsFrom, replay-like}
 use Rattle.tree.proofs.Modelled.{said, readable-as, test-as, short-is, objects-shown, shown-length, objects-length, lists-like, change-as}
 use Rattle.tree.proofs.Reading.{ReadAs, part-as, counts-as}
@@ -49,7 +49,7 @@ three-needs true false c r o v e = refl
 three-needs false b c r o v e = refl
 
 -- on any bytes, a start answers what the model answers
-pub start-as : (b : Begin) (r : List ℕ) → said (startWith b r) ≡ Model.startAnswer (settingsFrom b) (leb (roomFor (b .objects) (b .steps)) (length r))
+pub start-as : (b : Settings) (r : List ℕ) → said (startTo b r) ≡ Model.startAnswer (settingsFrom b) (leb (roomFor (b .object-limit) (b .step-limit)) (length r))
 unfolding startTo startOk Model.startAnswer Model.limitsOk
 start-as b r =
     three-needs _ _ _ r _ _
@@ -80,7 +80,7 @@ unfolding callTo changeWith
 call-change (add new) r = refl
 call-change (alter i x) r = refl
 
-abbrev treeOf : Begin → Past ChangeGiven → Model.Tree
+abbrev treeOf : Settings → Past ChangeGiven → Model.Tree
 treeOf b p = record { settings = settingsFrom b; changes = map changeMeant (p .done); kept = p .left }
 
 rest-map : (cs : List ChangeGiven) → rest (map changeMeant cs) ≡ map changeMeant (rest cs)
@@ -88,24 +88,24 @@ unfolding rest
 rest-map [] = refl
 rest-map (c ∷ cs) = refl
 
-module _ (b : Begin) (r : List ℕ) (h : accepted (startWith b r .answer) ≡ true) where
+module _ (b : Settings) (r : List ℕ) (h : accepted (startTo b r .answer) ≡ true) where
   abbrev e : List ℕ
-  e = settingsFor (b .rule) (b .mapping) (b .default)
+  e = settingsBytes b
 
   abbrev room : List (Step ChangeGiven) → List ℕ
-  room qs = played qs (startWith b r .bytes)
+  room qs = played qs (startTo b r .bytes)
 
   past : List (Step ChangeGiven) → Past ChangeGiven
-  past qs = remains (rules (b .objects) e) (b .steps) qs
+  past qs = remains (rules (b .object-limit) e) (b .step-limit) qs
 
   abbrev tree : List (Step ChangeGiven) → Model.Tree
   tree qs = treeOf b (past qs)
 
-  H : (qs : List (Step ChangeGiven)) → Reached (b .objects) (b .steps) e (startWith b r .bytes) qs
-  H qs = reaches (b .objects) (b .steps) (b .rule) (b .mapping) (b .default) r h qs
+  H : (qs : List (Step ChangeGiven)) → Reached (b .object-limit) (b .step-limit) e (startTo b r .bytes) qs
+  H qs = reaches b r h qs
 
-  B : Begun (b .objects) (b .steps) (b .rule) (b .mapping) (b .default) r
-  B = begun (b .objects) (b .steps) (b .rule) (b .mapping) (b .default) r h
+  B : Begun b r
+  B = begun b r h
 
   F : (qs : List (Step ChangeGiven)) → Formed (room qs)
   F qs = formed-facts (room qs) (H qs .well)
@@ -114,7 +114,7 @@ module _ (b : Begin) (r : List ℕ) (h : accepted (startWith b r .answer) ≡ tr
   settings-as qs =
       rw (
         H qs .limit-is,
-        H qs .depth-is,
+        H qs .step-limit-is,
         H qs .settings-are,
         mapping-of (b .rule) (b .mapping) (b .default),
         default-of (b .rule) (b .mapping) (b .default) (B .short-default),
@@ -124,7 +124,7 @@ module _ (b : Begin) (r : List ℕ) (h : accepted (startWith b r .answer) ≡ tr
   replayed-as : (qs : List (Step ChangeGiven)) → Good (shown (room qs) .own) × (objectsFrom (shown (room qs) .own) ≡ Model.objectsOf (tree qs))
   unfolding past
   replayed-as qs =
-      replay-like (b .objects) (b .steps) e (start-facts (b .objects) (b .steps) (b .rule) (length r) (B .in-range) .objects-64)
+      replay-like (b .object-limit) (b .step-limit) e (start-facts (b .object-limit) (b .step-limit) (b .rule) (length r) (B .in-range) .objects-64)
       (past qs .done) (shown (room qs) .own) (H qs .data-replayed)
 
   objects-as : (qs : List (Step ChangeGiven)) → objectsIn (room qs) ≡ Model.objectsOf (tree qs)
@@ -176,8 +176,8 @@ module _ (b : Begin) (r : List ℕ) (h : accepted (startWith b r .answer) ≡ tr
   all-stays : (qs : List (Step ChangeGiven)) (q : Request) → Model.accepted (answerTo q (room qs)) ≡ false → callOn q (room qs) .bytes ≡ room qs
   unfolding callOn callTo
   all-stays qs (start c) z =
-      start-stays (c .objects) (c .steps) (c .rule) (c .mapping) (c .default) (room qs)
-      (sym (accepted-number (startWith c (room qs) .answer) (start-numbered c (room qs))) ∙ z)
+      start-stays c (room qs)
+      (sym (accepted-number (startTo c (room qs) .answer) (start-numbered c (room qs))) ∙ z)
   all-stays qs (change c) z =
       let e = call-change c (room qs) in
       let n = sym (accepted-number (changeWith c (room qs) .answer) (change-numbered c (room qs))) ∙ z in
@@ -203,12 +203,12 @@ module _ (b : Begin) (r : List ℕ) (h : accepted (startWith b r .answer) ≡ tr
 
   -- one change or undo more
   noted-as : (p : Past ChangeGiven) (c : ChangeGiven) (o : Option (List MaybeList))
-      → cond (isSome o) (Model.noted (treeOf b p) (changeMeant c)) (treeOf b p) ≡ treeOf b (noted (rules (b .objects) e) (b .steps) p c o)
+      → cond (isSome o) (Model.noted (treeOf b p) (changeMeant c)) (treeOf b p) ≡ treeOf b (noted (rules (b .object-limit) e) (b .step-limit) p c o)
   unfolding noted isSome
   noted-as p c none = refl
   noted-as p c (some l) = refl
 
-  off-as : (p : Past ChangeGiven) (k : ℕ) → Model.takenOff (treeOf b p) k ≡ treeOf b (unnoted (rules (b .objects) e) (b .steps) p k)
+  off-as : (p : Past ChangeGiven) (k : ℕ) → Model.takenOff (treeOf b p) k ≡ treeOf b (unnoted (rules (b .object-limit) e) (b .step-limit) p k)
   unfolding Model.takenOff unnoted
   off-as p zero = refl
   off-as p (suc k) = rw (rest-map (p .done)) refl
@@ -217,12 +217,12 @@ module _ (b : Begin) (r : List ℕ) (h : accepted (startWith b r .answer) ≡ tr
   unfolding Model.next Model.answer past remains next accepts callTo changeWith
   change-next qs c =
       let a : Model.accepted (Model.changeAnswer (settingsFrom b) (Model.objectsOf (tree qs)) (changeMeant c))
-      ≡ isSome (afresh (rules (b .objects) e) (b .steps) (c ∷ past qs .done)) =
+      ≡ isSome (afresh (rules (b .object-limit) e) (b .step-limit) (c ∷ past qs .done)) =
       ap Model.accepted (sym (change-said qs c)) ∙ accepted-number (changeWith c (room qs) .answer) (change-numbered c (room qs)) ∙ called c in
       ap (λ (x : Bool). cond x (Model.noted (tree qs) (changeMeant c)) (tree qs)) a
-      ∙ noted-as (past qs) c (afresh (rules (b .objects) e) (b .steps) (c ∷ past qs .done))
+      ∙ noted-as (past qs) c (afresh (rules (b .object-limit) e) (b .step-limit) (c ∷ past qs .done))
     where
-      called : (c : ChangeGiven) → accepted (changeWith c (room qs) .answer) ≡ isSome (afresh (rules (b .objects) e) (b .steps) (c ∷ past qs .done))
+      called : (c : ChangeGiven) → accepted (changeWith c (room qs) .answer) ≡ isSome (afresh (rules (b .object-limit) e) (b .step-limit) (c ∷ past qs .done))
       called c = ap (λ (o : Outcome). accepted (o .answer)) (sym (call-change c (room qs))) ∙ H qs .answered (edit c)
 
   undo-next : (qs : List (Step ChangeGiven)) → Model.next (tree qs) Model.undo ≡ tree (take-back ∷ qs)
@@ -235,7 +235,7 @@ stepMeant : Step ChangeGiven → Model.Call
 stepMeant (edit c) = Model.change (changeMeant c)
 stepMeant take-back = Model.undo
 
-step-next : (b : Begin) (r : List ℕ) (h : accepted (startWith b r .answer) ≡ true) (qs : List (Step ChangeGiven)) (q : Step ChangeGiven)
+step-next : (b : Settings) (r : List ℕ) (h : accepted (startTo b r .answer) ≡ true) (qs : List (Step ChangeGiven)) (q : Step ChangeGiven)
     → Model.next (tree b r h qs) (stepMeant q) ≡ tree b r h (q ∷ qs)
 unfolding stepMeant
 step-next b r h qs (edit c) = change-next b r h qs c
@@ -253,8 +253,8 @@ call-undo : (r : List ℕ) → callTo take-back r ≡ undoTo r
 unfolding callTo
 call-undo r = refl
 
-start-said : (s : Model.Tree) (b : Begin) (r : List ℕ)
-    → said (startWith b r) ≡ Model.answer s (Model.start (settingsFrom b) (leb (roomFor (b .objects) (b .steps)) (length r)))
+start-said : (s : Model.Tree) (b : Settings) (r : List ℕ)
+    → said (startTo b r) ≡ Model.answer s (Model.start (settingsFrom b) (leb (roomFor (b .object-limit) (b .step-limit)) (length r)))
 unfolding Model.answer
 start-said s b r = start-as b r
 
@@ -273,18 +273,18 @@ counts-next s = refl
 
 -- a room of `long` bytes, and the model's tree, after a start that was accepted and calls since
 record Follows (long : ℕ) (r : List ℕ) (s : Model.Tree) : Type 0 where
-  given : Begin
+  given : Settings
   before : List ℕ
-  accepts-it : accepted (startWith given before .answer) ≡ true
+  accepts-it : accepted (startTo given before .answer) ≡ true
   steps : List (Step ChangeGiven)
   room-is : r ≡ room given before accepts-it steps
   tree-is : s ≡ tree given before accepts-it steps
   long-is : length r ≡ long
 
-follows-start : (b : Begin) (r : List ℕ) → accepted (startWith b r .answer) ≡ true → Follows (length r) (startWith b r .bytes) (Model.begun (settingsFrom b))
+follows-start : (b : Settings) (r : List ℕ) → accepted (startTo b r .answer) ≡ true → Follows (length r) (startTo b r .bytes) (Model.begun (settingsFrom b))
 unfolding played past remains
 follows-start b r h =
-    let B = begun (b .objects) (b .steps) (b .rule) (b .mapping) (b .default) r h in
+    let B = begun b r h in
     record { given = b; before = r; accepts-it = h; steps = []; room-is = refl; tree-is = refl; long-is = B .size-is }
 
 module _ {long : ℕ} {r : List ℕ} {s : Model.Tree} (f : Follows long r s) where
@@ -312,45 +312,45 @@ module _ {long : ℕ} {r : List ℕ} {s : Model.Tree} (f : Follows long r s) whe
       }
 
   -- a start, accepted or not
-  follows-begin : (b : Begin) (x : Bool) → accepted (startWith b r .answer) ≡ x
-      → Follows long (startWith b r .bytes) (cond x (Model.begun (settingsFrom b)) s)
-  follows-begin b true h = subst (λ (n : ℕ). Follows n (startWith b r .bytes) (Model.begun (settingsFrom b))) (f .long-is) (follows-start b r h)
+  follows-begin : (b : Settings) (x : Bool) → accepted (startTo b r .answer) ≡ x
+      → Follows long (startTo b r .bytes) (cond x (Model.begun (settingsFrom b)) s)
+  follows-begin b true h = subst (λ (n : ℕ). Follows n (startTo b r .bytes) (Model.begun (settingsFrom b))) (f .long-is) (follows-start b r h)
   follows-begin b false h =
-      subst (λ (x : List ℕ). Follows long x s) (sym (start-stays (b .objects) (b .steps) (b .rule) (b .mapping) (b .default) r h)) f
+      subst (λ (x : List ℕ). Follows long x s) (sym (start-stays b r h)) f
 
-  start-accepted : (b : Begin)
-      → Model.accepted (Model.answer s (Model.start (settingsFrom b) (leb (roomFor (b .objects) (b .steps)) long))) ≡ accepted (startWith b r .answer)
-  start-accepted b = rw (← f .long-is) (ap Model.accepted (sym (start-said s b r)) ∙ accepted-number (startWith b r .answer) (start-numbered b r))
+  start-accepted : (b : Settings)
+      → Model.accepted (Model.answer s (Model.start (settingsFrom b) (leb (roomFor (b .object-limit) (b .step-limit)) long))) ≡ accepted (startTo b r .answer)
+  start-accepted b = rw (← f .long-is) (ap Model.accepted (sym (start-said s b r)) ∙ accepted-number (startTo b r .answer) (start-numbered b r))
 
   follows-call : (q : Request) → Follows long (callOn q r .bytes) (Model.next s (meant long q))
   unfolding callOn meant
   follows-call (start b) =
-      subst (λ (x : Model.Tree). Follows long (startWith b r .bytes) x) (sym (start-next s (settingsFrom b) _ _ (start-accepted b))) (follows-begin b _ refl)
+      subst (λ (x : Model.Tree). Follows long (startTo b r .bytes) x) (sym (start-next s (settingsFrom b) _ _ (start-accepted b))) (follows-begin b _ refl)
   follows-call (change c) =
       subst (λ (o : Outcome). Follows long (o .bytes) (Model.next s (Model.change (changeMeant c)))) (call-change c r) (follows-step (edit c) _ (edit-meant s c))
   follows-call undo = subst (λ (o : Outcome). Follows long (o .bytes) (Model.next s Model.undo)) (call-undo r) (follows-step take-back _ (undo-meant s))
   follows-call (read x i out) = subst (Follows long r) (sym (read-next s x i out)) f
   follows-call counts = subst (Follows long r) (sym (counts-next s)) f
 
-follows-all : (b : Begin) (r : List ℕ) → accepted (startWith b r .answer) ≡ true → (qs : List Request)
-    → Follows (length r) (playedOn qs (startWith b r .bytes)) (Model.after (Model.begun (settingsFrom b)) (map (meant (length r)) qs))
+follows-all : (b : Settings) (r : List ℕ) → accepted (startTo b r .answer) ≡ true → (qs : List Request)
+    → Follows (length r) (playedOn qs (startTo b r .bytes)) (Model.after (Model.begun (settingsFrom b)) (map (meant (length r)) qs))
 unfolding playedOn Model.after
 follows-all b r h [] = follows-start b r h
 follows-all b r h (q ∷ qs) = follows-call (follows-all b r h qs) q
 
 -- the theorem
-pub demand3 : (b : Begin) (r : List ℕ) → accepted (startWith b r .answer) ≡ true → (qs : List Request)
-    → Shows (length r) (playedOn qs (startWith b r .bytes)) (Model.after (Model.begun (settingsFrom b)) (map (meant (length r)) qs))
+pub demand3 : (b : Settings) (r : List ℕ) → accepted (startTo b r .answer) ≡ true → (qs : List Request)
+    → Shows (length r) (playedOn qs (startTo b r .bytes)) (Model.after (Model.begun (settingsFrom b)) (map (meant (length r)) qs))
 demand3 b r h qs = T (follows-all b r h qs)
 
 -- every call leaves a well-formed room well formed, reached by calls or not
 pub call-keeps : (r : List ℕ) → formed r ≡ true → (q : Request) → formed (callOn q r .bytes) ≡ true
 unfolding callOn playedOn callTo
-call-keeps r f (start b) = by (accepted (startWith b r .answer)) refl
+call-keeps r f (start b) = by (accepted (startTo b r .answer)) refl
   where
-    by : (x : Bool) → accepted (startWith b r .answer) ≡ x → formed (startWith b r .bytes) ≡ true
+    by : (x : Bool) → accepted (startTo b r .answer) ≡ x → formed (startTo b r .bytes) ≡ true
     by true h = demand3 b r h [] .well
-    by false h = rw (start-stays (b .objects) (b .steps) (b .rule) (b .mapping) (b .default) r h) f
+    by false h = rw (start-stays b r h) f
 call-keeps r f (change c) = subst (λ (o : Outcome). formed (o .bytes) ≡ true) (call-change c r) (keeps r f (edit c) .well)
 call-keeps r f undo = keeps r f take-back .well
 call-keeps r f (read x i out) = f

@@ -9,7 +9,7 @@ use lib.ListN.{length, getD}
 use Rattle.list.specs.Bytes.{front}
 use Rattle.list.proofs.Tests.{both-true}
 use Rattle.tree.specs.General.{tab}
-use Rattle.tree.specs.Held.{held, blockOk, slotOk, parentByteIn}
+use Rattle.tree.specs.Held.{held, blockOk, slotOk, parentOf}
 use Rattle.tree.specs.Room.{objectLimit, stepLimit, objects, keptSteps, roomFor, settings, ownData, slot, step, area}
 use Rattle.tree.specs.Formed.{Head, settingsOk, placedIn, objectOk, stepsOk, formed}
 use Rattle.tree.proofs.Replay.{work, undoIn, shown}
@@ -31,13 +31,13 @@ pub record Formed (r : List ℕ) : Type 0 where
   pub steps : stepsOk (λ i. ownData i r) (λ j. step (objectLimit r) j r) (keptSteps r) 0 (objects r) ≡ true
 
 object-facts : (r : List ℕ) (i : ℕ) → objectOk r i ≡ true
-    → (blockOk (ownData i r) ≡ true) × ((placedIn 255 (λ j. ownData j r) i (parentByteIn (ownData i r)) ≡ true) × (slotOk (slot i r) ≡ true))
+    → (blockOk (ownData i r) ≡ true) × ((placedIn (λ j. ownData j r) i (parentOf (ownData i r)) ≡ true) × (slotOk (slot i r) ≡ true))
 unfolding objectOk
 object-facts r i h =
     let a = both-true (blockOk (ownData i r)) _ h in
-    (a .0, both-true (placedIn 255 (λ j. ownData j r) i (parentByteIn (ownData i r))) (slotOk (slot i r)) (a .1))
+    (a .0, both-true (placedIn (λ j. ownData j r) i (parentOf (ownData i r))) (slotOk (slot i r)) (a .1))
 
-object-from : (r : List ℕ) (i : ℕ) → blockOk (ownData i r) ≡ true → placedIn 255 (λ j. ownData j r) i (parentByteIn (ownData i r)) ≡ true → slotOk (slot i r) ≡ true
+object-from : (r : List ℕ) (i : ℕ) → blockOk (ownData i r) ≡ true → placedIn (λ j. ownData j r) i (parentOf (ownData i r)) ≡ true → slotOk (slot i r) ≡ true
     → objectOk r i ≡ true
 unfolding objectOk
 object-from r i a b c = rw (a, b) c
@@ -95,8 +95,8 @@ module _ (r : List ℕ) (F : Formed r) (w : List ℕ) (n : ℕ) (f : ℕ → Lis
   w-limit : objectLimit w ≡ objectLimit r
   w-limit = B .limits ∙ area-byte r 0 (omega arith)
 
-  w-depth : stepLimit w ≡ stepLimit r
-  w-depth = B .depths ∙ area-byte r 1 (omega arith)
+  w-step-limit : stepLimit w ≡ stepLimit r
+  w-step-limit = B .step-limits ∙ area-byte r 1 (omega arith)
 
   byte : (i : ℕ) → i < roomFor (objectLimit r) (stepLimit r) → getD (front w r) i 0 ≡ getD w i 0
   byte = front-byte r h w long
@@ -104,8 +104,8 @@ module _ (r : List ℕ) (F : Formed r) (w : List ℕ) (n : ℕ) (f : ℕ → Lis
   pub new-limit : objectLimit (front w r) ≡ objectLimit r
   new-limit = byte 0 (omega arith) ∙ w-limit
 
-  pub new-depth : stepLimit (front w r) ≡ stepLimit r
-  new-depth = byte 1 (omega arith) ∙ w-depth
+  pub new-step-limit : stepLimit (front w r) ≡ stepLimit r
+  new-step-limit = byte 1 (omega arith) ∙ w-step-limit
 
   new-objects : objects (front w r) ≡ n
   new-objects = byte 2 (omega arith) ∙ B .count
@@ -122,14 +122,14 @@ module _ (r : List ℕ) (F : Formed r) (w : List ℕ) (n : ℕ) (f : ℕ → Lis
         long = omega (arith, new-length, h .long);
         some-limit = omega (arith, new-limit, h .some-limit);
         limit-64 = omega (arith, new-limit, h .limit-64);
-        depth-64 = omega (arith, new-depth, h .depth-64);
+        steps-64 = omega (arith, new-step-limit, h .steps-64);
         within = omega (arith, new-limit, new-objects);
-        kept-within = omega (arith, new-depth, new-kept);
-        room-enough = rw (new-limit, new-depth, new-length) (h .room-enough);
+        kept-within = omega (arith, new-step-limit, new-kept);
+        room-enough = rw (new-limit, new-step-limit, new-length) (h .room-enough);
       }
 
   is-area : area (front w r) ≡ w
-  is-area = area-front r h w long w-limit w-depth
+  is-area = area-front r h w long w-limit w-step-limit
 
   pub new-settings : settings (front w r) ≡ settings r
   new-settings = sym (area-settings (front w r)) ∙ ap settings is-area ∙ B .same-settings ∙ area-settings r
@@ -142,7 +142,7 @@ module _ (r : List ℕ) (F : Formed r) (w : List ℕ) (n : ℕ) (f : ℕ → Lis
 
   new-step : (j : ℕ) → j < k → step (objectLimit (front w r)) j (front w r) ≡ g j
   new-step j q =
-      sym (area-step (front w r) j (omega (arith, new-depth)))
+      sym (area-step (front w r) j (omega (arith, new-step-limit)))
       ∙ ap (λ (x : List ℕ). step (objectLimit (front w r)) j x) is-area
       ∙ ap (λ (m : ℕ). step m j w) (new-limit ∙ sym (area-byte r 0 (omega arith)))
       ∙ B .stepped j q

@@ -3,15 +3,16 @@ use mathlib.Core.Path.{_≡_, refl, sym, ap, _∙_}
 use mathlib.Core.List.{List, _∷_}
 use Prim.Native.Nat.{ℕ, _+_, _-_, _*_, _≤_, _<_, min}
 use native.Mathlib.Omega.{arith}
-use borrow.Author.Tests.{lt-ltb}
 use lib.ListN.{length, take, set}
+use lib.Seq.{length-take-le}
 use Rattle.list.specs.Bytes.{part, putAt}
 use Rattle.list.proofs.Places.{length-part, part-most, part-of-take, put-whole}
 use Rattle.tree.specs.Room.{objectLimit, stepLimit, keptSteps, stepsAt, roomFor, ownData, area}
-use Rattle.tree.specs.Calls.{shifted, pushed, popped}
+use Rattle.tree.specs.Calls.{stepKept, stepGone}
 use Rattle.tree.proofs.Areas.{area-byte, area-own}
 use Rattle.tree.proofs.Tested.{part-within}
 use Rattle.tree.proofs.Lays.{write-one, write-next, write-more}
+use Rattle.tree.proofs.Stepping.{kept-from, gone-from, none-from}
 
 pub step-laid : (a tag i : ℕ) (b l m : List ℕ) → a + 2 + length b ≤ length l → m ≡ putAt (a + 2) b (set (set l a tag) (a + 1) i) → m ≡ putAt a (tag ∷ i ∷ b) l
 step-laid a tag i b l m h e = write-more (length b) b m (write-next i (write-one a tag l (omega arith)) (omega arith)) refl h e .is
@@ -33,43 +34,55 @@ module _ (r : List ℕ) (n s : ℕ) (en : n ≡ objectLimit r) (es : s ≡ stepL
   area-is = rw (en, es)
 
   module _ (w : List ℕ) (lw : length w ≡ roomFor n s) (lr : roomFor n s ≤ length r) where
+    area-length : length (area r) ≡ roomFor n s
+    area-length = rw area-is (length-take-le (roomFor n s) r lr)
+
+    area-part : (a k : ℕ) → a + k ≤ roomFor n s → part a k (area r) ≡ part a k r
+    area-part a k h = ap (part a k) area-is ∙ part-of-take a k (roomFor n s) r h
+
+    limit-is : objectLimit (area r) ≡ n
+    limit-is = area-byte r 0 (omega arith) ∙ sym en
+
+    steps-is : stepLimit (area r) ≡ s
+    steps-is = area-byte r 1 (omega arith) ∙ sym es
+
+    kept-now : (k : ℕ) → k ≡ keptSteps r → keptSteps (area r) ≡ k
+    kept-now k e = area-byte r 3 (omega arith) ∙ sym e
+
+    own-length : (i : ℕ) → i < n → length (ownData i r) ≡ 1184
+    unfolding ownData
+    own-length i h = length-part (1048 + i * 2211) 1184 r (omega arith)
+
     pub copy-is : (b w₁ : List ℕ) → b ≡ part 0 (roomFor n s) r → w₁ ≡ putAt 0 b w → w₁ ≡ area r
     unfolding part
     copy-is b w₁ e f =
         let l : length b ≡ length w = ap length e ∙ length-part 0 (roomFor n s) r (omega arith) ∙ sym lw in
         f ∙ put-whole b w l ∙ e ∙ sym area-is
 
-    pub shift-is : (k m : ℕ) (b w₁ c w₂ : List ℕ) → 0 < s → k ≡ keptSteps r → m ≡ min s (k + 1)
+    -- a step in front of the others
+    pub kept-is : (k m tag i : ℕ) (b w₁ o w₂ c w₃ : List ℕ) → 0 < s → i < n → k ≡ keptSteps r → m ≡ min s (k + 1)
         → b ≡ part 0 (roomFor n s) r → w₁ ≡ putAt 0 b w
-        → c ≡ part (stepsAt n) ((s - 1) * 1186) r → w₂ ≡ putAt (stepsAt n + 1186) c w₁
-        → set w₂ 3 m ≡ shifted (area r)
-    unfolding shifted
-    shift-is k m b w₁ c w₂ p ek em eb e ec f =
-        let q : stepsAt n + (s - 1) * 1186 ≤ roomFor n s = omega arith in
-        let g : part (stepsAt n) ((s - 1) * 1186) (take (roomFor n s) r) ≡ part (stepsAt n) ((s - 1) * 1186) r =
-        part-of-take (stepsAt n) ((s - 1) * 1186) (roomFor n s) r q in
-        rw (f, ec, copy-is b w₁ eb e, area-byte r 0 (omega arith), area-byte r 1 (omega arith), area-byte r 3 (omega arith), ← en, ← es, ← ek, em, g)
+        → o ≡ ownData i r → w₂ ≡ putAt (stepsAt n) (tag ∷ i ∷ o) w₁
+        → c ≡ part (stepsAt n) ((s - 1) * 1186) r → w₃ ≡ putAt (stepsAt n + 1186) c w₂
+        → set w₃ 3 m ≡ stepKept (tag ∷ i ∷ ownData i (area r)) (area r)
+    kept-is k m tag i b w₁ o w₂ c w₃ p h ek em eb e₁ eo e₂ ec e₃ =
+        let own : o ≡ ownData i (area r) = eo ∙ sym (area-own r i (omega arith)) in
+        let long : length (tag ∷ i ∷ ownData i (area r)) ≡ 1186 = let l = own-length i h in rw (← own, eo) (omega arith) in
+        let first : w₂ ≡ putAt (stepsAt n) (tag ∷ i ∷ ownData i (area r)) (area r) = e₂ ∙ rw (own, copy-is b w₁ eb e₁) in
+        kept-from (area r) n s k limit-is steps-is (kept-now k ek) area-length (tag ∷ i ∷ ownData i (area r)) c w₂ w₃ m p long em first
+        (ec ∙ sym (area-part (stepsAt n) ((s - 1) * 1186) (omega arith))) e₃
 
-    pub pop-is : (k : ℕ) (b w₁ c w₂ : List ℕ) → 0 < s → k ≡ keptSteps r
+    -- the latest taken off
+    pub gone-is : (k : ℕ) (b w₁ c w₂ : List ℕ) → 0 < s → k ≡ keptSteps r
         → b ≡ part 0 (roomFor n s) r → w₁ ≡ putAt 0 b w
         → c ≡ part (stepsAt n + 1186) ((s - 1) * 1186) r → w₂ ≡ putAt (stepsAt n) c w₁
-        → set w₂ 3 (k - 1) ≡ popped (area r)
-    unfolding popped
-    pop-is k b w₁ c w₂ p ek eb e ec f =
-        let q : stepsAt n + 1186 + (s - 1) * 1186 ≤ roomFor n s = omega arith in
-        let g : part (stepsAt n + 1186) ((s - 1) * 1186) (take (roomFor n s) r) ≡ part (stepsAt n + 1186) ((s - 1) * 1186) r =
-        part-of-take (stepsAt n + 1186) ((s - 1) * 1186) (roomFor n s) r q in
-        rw (f, ec, copy-is b w₁ eb e, area-byte r 0 (omega arith), area-byte r 1 (omega arith), area-byte r 3 (omega arith), ← en, ← es, ← ek, g)
+        → set w₂ 3 (k - 1) ≡ stepGone (area r)
+    gone-is k b w₁ c w₂ p ek eb e ec f =
+        gone-from (area r) n s k limit-is steps-is (kept-now k ek) area-length c w₂ p
+        (ec ∙ sym (area-part (stepsAt n + 1186) ((s - 1) * 1186) (omega arith))) (f ∙ ap (putAt (stepsAt n) c) (copy-is b w₁ eb e))
 
-    -- a step kept, where none are, and where some are
-    pub push-none : (u b w₁ : List ℕ) → s ≡ 0 → b ≡ part 0 (stepsAt n) r → w₁ ≡ putAt 0 b w → w₁ ≡ pushed u (area r)
-    unfolding pushed
-    push-none u b w₁ z e f =
+    -- none kept, where none may be
+    pub none-kept : (u b w₁ : List ℕ) → s ≡ 0 → keptSteps r ≡ 0 → b ≡ part 0 (stepsAt n) r → w₁ ≡ putAt 0 b w → w₁ ≡ stepKept u (area r)
+    none-kept u b w₁ z k e f =
         let q : stepsAt n ≡ roomFor n s = omega arith in
-        copy-is b w₁ (e ∙ ap (λ (j : ℕ). part 0 j r) q) f ∙ rw (area-byte r 1 (omega arith), ← es, z)
-
-  pub push-some : (tag i : ℕ) (b w₁ w₂ : List ℕ) → 0 < s → i < n → b ≡ ownData i r → w₁ ≡ shifted (area r) → w₂ ≡ putAt (stepsAt n) (tag ∷ i ∷ b) w₁
-      → w₂ ≡ pushed (tag ∷ i ∷ ownData i (area r)) (area r)
-  unfolding pushed
-  push-some tag i b w₁ w₂ p h eb e f =
-      f ∙ rw (e, eb, area-own r i (omega arith), area-byte r 0 (omega arith), area-byte r 1 (omega arith), ← es, ← en, lt-ltb 0 s p)
+        copy-is b w₁ (e ∙ ap (λ (j : ℕ). part 0 j r) q) f ∙ none-from (area r) n s 0 limit-is steps-is (kept-now 0 (sym k)) area-length u z refl

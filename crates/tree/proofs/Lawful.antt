@@ -9,13 +9,10 @@ use lib.ListN.{length, getD, set, length-append}
 use lib.Seq.{take-at, set-set, set-getD}
 use lib.Dec.{ltb}
 use Rattle.list.specs.Bytes.{putAt}
-use Rattle.inherit.specs.Compute.{ordinary}
-use Rattle.tree.specs.Model.{shortIf}
 use Rattle.tree.specs.Held.{blockFor}
-use Rattle.tree.specs.Formed.{placedIn}
-use Rattle.tree.specs.Calls.{editAt, editBytes, nobody, ChangeGiven, add, alter}
+use Rattle.tree.specs.Calls.{editAt, editBytes, objectFor, ChangeGiven, add, alter}
 use Rattle.tree.proofs.History.{Lawful}
-use Rattle.tree.proofs.Replay.{Blocks, reads, fine, when, change, keep, back, gather, work, rules}
+use Rattle.tree.proofs.Replay.{Blocks, fine, addable, when, change, keep, back, gather, work, rules}
 
 -- what is there under a test
 when-is : {A : Type 0} (b : Bool) (x y : A) → when b x ≡ some y → x ≡ y
@@ -25,13 +22,10 @@ when-is false x y e = let z : _≡_ {A = ℕ} 0 1 = cc in absurd (omega arith)
 undoes : (n : ℕ) (c : ChangeGiven) (d after : Blocks) → change n c d ≡ some after → back (keep c d) after ≡ d
 unfolding change keep back
 undoes n (add new) d after h =
-    let e : d ++ (blockFor new ∷ []) ≡ after =
-    when-is
-    (placedIn nobody (λ j. getD d j []) (length d) (new .parent)
-    && (ltb (length d) n && (reads (new .list) && (ordinary (new .owner) && (ordinary (new .group) && shortIf (new .list))))))
-    (d ++ (blockFor new ∷ [])) after h in
-    let k : length d ≡ length (d ++ (blockFor new ∷ [])) - 1 = simp length-append (omega arith) in
-    rw (← e) (take-at d (blockFor new ∷ []) _ k)
+    let b = blockFor (objectFor new) in
+    let e : d ++ (b ∷ []) ≡ after = when-is (addable n new (length d) (λ j. getD d j [])) (d ++ (b ∷ [])) after h in
+    let k : length d ≡ length (d ++ (b ∷ [])) - 1 = simp length-append (omega arith) in
+    rw (← e) (take-at d (b ∷ []) _ k)
 undoes n (alter i x) d after h =
     let b = putAt (editAt x) (editBytes x) (getD d i []) in
     let e : set d i b ≡ after = when-is (ltb i (length d) && fine x) (set d i b) after h in

@@ -14,8 +14,9 @@ use Rattle.list.proofs.Little.{length-spell}
 use Rattle.list.proofs.Places.{put-one, put-snoc, put-append, put-whole, length-put}
 use Rattle.inherit.specs.declared.Mapping.{Mapping}
 use Rattle.inherit.specs.Asked.{MaybeList}
-use Rattle.tree.specs.Model.{shortIf}
-use Rattle.tree.specs.Held.{New, slotFor, idFor, blockFor, yes}
+use Rattle.tree.specs.Model.{parentByte, shortIf}
+use Rattle.tree.specs.Held.{slotFor, idFor, parentIn, blockFor, yes}
+use Rattle.tree.specs.Calls.{New, nobody, objectFor}
 use Rattle.tree.specs.Room.{settingsFor}
 
 -- m is l with b, of n bytes, written at a
@@ -116,12 +117,12 @@ guid-whole : (g : List ℕ) → length g ≡ 16 → guidAt g 0 ≡ g
 unfolding guidAt
 guid-whole g h = rw (le-leb 16 (length g) (omega arith)) (take-all 16 g (omega arith))
 
-module _ (new : New) (t : length (new .type) ≡ 16) (o : length (new .owner) ≤ 68) (g : length (new .group) ≤ 68) (s : shortIf (new .list) ≡ true) where
+module _ (new : New) (b : parentByte (parentIn nobody (new .parent)) ≡ min 255 (new .parent)) (t : length (new .type) ≡ 16) (o : length (new .owner) ≤ 68) (g : length (new .group) ≤ 68) (s : shortIf (new .list) ≡ true) where
   pub block-laid : (x y z : ℕ) (l m₁ m₂ m₃ : List ℕ) → length l ≡ 1184 → x ≡ min 255 (new .parent) → y ≡ yes (new .container) → z ≡ yes (new .mark)
       → m₁ ≡ putAt 3 (new .type) (set (set (set l 0 x) 1 y) 2 z)
       → m₂ ≡ putAt 19 (idFor (new .owner) ++ idFor (new .group)) m₁
       → m₃ ≡ putAt 157 (slotFor (new .list)) m₂
-      → m₃ ≡ blockFor new
+      → m₃ ≡ blockFor (objectFor new)
   unfolding blockFor
   block-laid x y z l m₁ m₂ m₃ h ex ey ez e₁ e₂ e₃ =
       let w = write-next z (write-next y (write-one 0 x l (omega arith)) (omega arith)) (omega arith) in
@@ -131,7 +132,7 @@ module _ (new : New) (t : length (new .type) ≡ 16) (o : length (new .owner) �
       w₃ .is
       ∙ put-whole _ l (w₃ .long ∙ sym h)
       ∙ regroup (x ∷ y ∷ z ∷ []) (new .type) (idFor (new .owner)) (idFor (new .group)) (slotFor (new .list))
-      ∙ rw (ex, ey, ez, guid-whole (new .type) t)
+      ∙ rw (ex, ← b, ey, ez, guid-whole (new .type) t)
 
 -- the settings
 module _ (rule : ℕ) (m : Mapping) (o : MaybeList) (s : shortIf o ≡ true) where

@@ -17,7 +17,7 @@ pub mod Lawful
 pub mod Paths
 pub mod Turns
 pub mod Areas
-pub mod Shifts
+pub mod Stepping
 pub mod Reworks
 pub mod Became
 pub mod Keeps

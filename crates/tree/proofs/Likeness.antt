@@ -21,22 +21,22 @@ use Rattle.inherit.specs.Compute.{ordinary, ruleOk, sizeFor, fits, revFor, with
 use Rattle.inherit.proofs.Theorems.{passed-room}
 use Rattle.list.proofs.Parts.{length-render}
 use Rattle.list.specs.Entry.{access}
-use Rattle.tree.specs.Held.{New, blockFor, blockOk, parentByteIn, typeOf, ownList, yes as bit}
+use Rattle.tree.specs.Held.{parentIn, blockFor, blockOk, parentByteIn, typeOf, ownList, yes as bit}
 use Rattle.tree.specs.Room.{ruleOf, defaultOf}
 use Rattle.tree.specs.Formed.{placedIn}
 use Rattle.tree.specs.Work.{askedIn, taken, computed}
 use Rattle.tree.proofs.Computed.{all-passed, computed-reads}
-use Rattle.tree.specs.Calls.{Edit, list, mark, owners, editAt, editBytes, nobody, ChangeGiven, add, alter}
+use Rattle.tree.specs.Calls.{Edit, list, mark, owners, editAt, editBytes, nobody, objectFor, ChangeGiven, add, alter}
 use Rattle.tree.specs.General.{bind, isSome, every}
 use Rattle.tree.proofs.History.{replay}
 use Rattle.tree.proofs.Replay.{Blocks, reads, fine, when, change, rules, fromRoot, gather, work}
-use Rattle.tree.proofs.Blocks.{Shows, new-shows, new-good}
+use Rattle.tree.proofs.Blocks.{Shows, length-guid, new-shows, new-good}
 use Rattle.tree.proofs.Edits.{edited, list-shows, mark-shows, owners-shows, edit-keeps, edit-good}
 use Rattle.tree.proofs.Paths.{Ordered, ordered-next, gather-at}
-use Rattle.tree.proofs.Turns.{Placed, placed-facts}
-use Rattle.tree.specs.Model.{Settings, Object, no-object, object, asked, fitting, listBelow, above, listFrom, listOf, listed, apply, objectsAfter, withList, withMark, withOwners, shortIf}
+use Rattle.tree.proofs.Turns.{Placed, placed-facts, placed-parent}
+use Rattle.tree.specs.Model.{Settings, Object, parentByte, no-object, object, asked, fitting, listBelow, above, listFrom, listOf, listed, apply, objectsAfter, withList, withMark, withOwners, shortIf}
 use Rattle.tree.proofs.NoRoom.{Earlier}
-use Rattle.tree.specs.Shown.{settingsAt, parentIn, objectIn, objectFor, alteration, changeMeant}
+use Rattle.tree.specs.Shown.{settingsAt, objectIn, alteration, changeMeant}
 
 -- ---- lists element by element
 
@@ -70,16 +70,9 @@ pub object-shows : {b : List ℕ} {p k m : ℕ} {t o g : List ℕ} {l : MaybeLis
     → objectIn b ≡ record { parent = parentIn 255 p; container = eqb k 1; mark = eqb m 1; type = t; owner = o; group = g; list = l }
 object-shows s = rw (s .parent, s .kind, s .mark, s .type, s .owner, s .group, s .list) refl
 
--- a parent as a call names it, and as own data does
-parent-is : (p : ℕ) → (p ≡ nobody) ⊎ (p < 255) → parentIn 255 (min 255 p) ≡ parentIn nobody p
-parent-is p (inl e) = rw e refl
-parent-is p (inr h) =
-    let m : min 255 p ≡ p = omega arith in
-    rw (m, ne-eqb p 255 (λ z. omega arith), ne-eqb p nobody (λ z. omega arith)) refl
-
-pub object-new : (new : New) → ordinary (new .owner) ≡ true → ordinary (new .group) ≡ true → shortIf (new .list) ≡ true → (new .parent ≡ nobody) ⊎ (new .parent < 255)
-    → objectIn (blockFor new) ≡ objectFor new
-object-new new o g s p = object-shows (new-shows new o g s) ∙ rw (parent-is (new .parent) p, yes-is (new .container), yes-is (new .mark)) refl
+pub object-new : (o : Object) → length (o .type) ≡ 16 → ordinary (o .owner) ≡ true → ordinary (o .group) ≡ true → shortIf (o .list) ≡ true
+    → parentIn 255 (parentByte (o .parent)) ≡ o .parent → objectIn (blockFor o) ≡ o
+object-new o t ho hg s p = object-shows (new-shows o t ho hg s) ∙ rw (p, yes-is (o .container), yes-is (o .mark)) refl
 
 module _ (b : List ℕ) (n : length b ≡ 1184) where
   pub object-list : (o : MaybeList) → shortIf o ≡ true → objectIn (edited (list o) b) ≡ withList o (objectIn b)
@@ -166,30 +159,31 @@ altered d i (owners x y) G h f =
     set-map objectIn d i _ ∙ ap (set (objectsFrom d) i) (object-owners (getD d i []) (G .long i h) x y (t .0) (t .1) ∙ ap (withOwners x y) (sym (object-in d i h)))
 
 -- where a new object stands
-stands : (d : Blocks) (p : ℕ) → length d ≤ 64 → placedIn nobody (λ j. getD d j []) (length d) p ≡ true
-    → ((p ≡ nobody) ⊎ (p < 255)) × ((min 255 p ≡ 255) ⊎ (min 255 p < length d))
-stands d p h t = by (placed-facts nobody (λ j. getD d j []) (length d) p t)
-  where
-    by : Placed nobody (λ j. getD d j []) (length d) p → ((p ≡ nobody) ⊎ (p < 255)) × ((min 255 p ≡ 255) ⊎ (min 255 p < length d))
-    by (inl q) = (inl (q .1), inl (rw (q .1) refl))
-    by (inr q) = (inr (omega (arith, q .1 .0)), inr (omega (arith, q .1 .0)))
+stands : (d : Blocks) (q : Option ℕ) → Placed (λ j. getD d j []) (length d) q → (parentByte q ≡ 255) ⊎ (parentByte q < length d)
+unfolding parentByte
+stands d none x = inl refl
+stands d (some p) x = inr (x .0)
 
 -- what a change makes of own data reads as what the model makes of the objects
 pub change-like : (n : ℕ) → n ≤ 64 → (c : ChangeGiven) (d e : Blocks) → Good d → change n c d ≡ some e → Good e × (objectsFrom e ≡ apply (changeMeant c) (objectsFrom d))
 unfolding change changeMeant apply
 change-like n few (add new) d e G h =
-    let w = when-some _ (d ++ (blockFor new ∷ [])) e h in
-    let t₁ = both-true (placedIn nobody (λ j. getD d j []) (length d) (new .parent)) _ (w .0) in
+    let o = objectFor new in
+    let b = blockFor o in
+    let w = when-some _ (d ++ (b ∷ [])) e h in
+    let t₁ = both-true (placedIn (λ j. getD d j []) (length d) (o .parent)) _ (w .0) in
     let t₂ = both-true (ltb (length d) n) _ (t₁ .1) in
-    let t₃ = both-true (reads (new .list)) _ (t₂ .1) in
-    let t₄ = both-true (ordinary (new .owner)) _ (t₃ .1) in
-    let t₅ = both-true (ordinary (new .group)) (shortIf (new .list)) (t₄ .1) in
+    let t₃ = both-true (reads (o .list)) _ (t₂ .1) in
+    let t₄ = both-true (ordinary (o .owner)) _ (t₃ .1) in
+    let t₅ = both-true (ordinary (o .group)) (shortIf (o .list)) (t₄ .1) in
     let k : length d < n = ltb-true (length d) n (t₂ .0) in
-    let s = stands d (new .parent) (omega arith) (t₁ .0) in
-    let x = new-shows new (t₄ .0) (t₅ .0) (t₅ .1) in
+    let l = length-guid (new .type) 0 in
+    let at = placed-facts (λ j. getD d j []) (length d) (o .parent) (t₁ .0) in
+    let back = placed-parent (λ j. getD d j []) (length d) (o .parent) (omega arith) at in
+    let x = new-shows o l (t₄ .0) (t₅ .0) (t₅ .1) in
     rw (← w .1) (
-      good-more d (blockFor new) G (new-good new (t₄ .0) (t₅ .0) (t₅ .1) (t₃ .0)) (x .long) (rw (x .parent) (s .1)),
-      map-more objectIn d (blockFor new) ∙ ap (λ (o : Object). objectsFrom d ++ (o ∷ [])) (object-new new (t₄ .0) (t₅ .0) (t₅ .1) (s .0)),
+      good-more d b G (new-good o l (t₄ .0) (t₅ .0) (t₅ .1) (t₃ .0)) (x .long) (rw (x .parent) (stands d (o .parent) at)),
+      map-more objectIn d b ∙ ap (λ (y : Object). objectsFrom d ++ (y ∷ [])) (object-new o l (t₄ .0) (t₅ .0) (t₅ .1) back),
     )
 change-like n few (alter i x) d e G h =
     let w = when-some (ltb i (length d) && fine x) (set d i (putAt (editAt x) (editBytes x) (getD d i []))) e h in

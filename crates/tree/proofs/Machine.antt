@@ -3,7 +3,7 @@ use mathlib.Core.Path.{_≡_, refl, sym, ap, _∙_}
 use mathlib.Core.Bool.{Bool, true, false, _&&_}
 use mathlib.Core.Logic.{_≢_}
 use mathlib.Core.List.{List, [], _∷_, _++_}
-use mathlib.Core.Option.{none}
+use mathlib.Core.Option.{Option, none, some}
 use Prim.Native.Nat.{ℕ, _+_, _-_, _<_}
 use native.Mathlib.Omega.{arith}
 use lib.ListN.{getD, take, set}
@@ -12,15 +12,13 @@ use borrow.Author.Tests.{lt-ltb, le-ltb}
 use Rattle.list.specs.Bytes.{putAt}
 use Rattle.list.proofs.Places.{split}
 use Rattle.inherit.specs.Asked.{MaybeList}
-use Rattle.inherit.specs.Compute.{ordinary}
-use Rattle.tree.specs.Model.{shortIf}
 use Rattle.tree.specs.General.{tab}
-use Rattle.tree.specs.Held.{New, blockFor}
+use Rattle.tree.specs.Held.{parentIn, blockFor}
 use Rattle.tree.specs.Room.{stepTag, stepObject, stepData}
 use Rattle.tree.specs.Formed.{placedIn}
-use Rattle.tree.specs.Calls.{Edit, editAt, editBytes, nobody, add, alter}
+use Rattle.tree.specs.Calls.{Edit, editAt, editBytes, New, nobody, objectFor, add, alter}
 use Rattle.tree.proofs.History.{edit, undo, settled, edited, undone, after}
-use Rattle.tree.proofs.Replay.{Undo, off, again, Blocks, reads, fine, change, keep, back, work, rules, undoIn}
+use Rattle.tree.proofs.Replay.{Undo, off, again, Blocks, fine, addable, change, keep, back, work, rules, undoIn}
 use Rattle.tree.proofs.Tab.{length-tab, getD-tab, tab-set, tab-ext, tab-last, tab-take}
 use Rattle.tree.proofs.Applied.{upd, upd-same, upd-other}
 
@@ -43,22 +41,13 @@ less-tab n x f =
     tab-take [] (n - 1) n f (omega arith) ∙ tab-ext (n - 1) f (upd (n - 1) x f) (λ j h. sym (upd-other (n - 1) x f j (apart j (n - 1) h)))
 
 -- a place below own data that is given by number
-pub placed-tab : (k n p : ℕ) (f : ℕ → List ℕ) → placedIn k (λ j. getD (tab n f) j []) n p ≡ placedIn k f n p
+pub placed-tab : (n : ℕ) (q : Option ℕ) (f : ℕ → List ℕ) → placedIn (λ j. getD (tab n f) j []) n q ≡ placedIn f n q
 unfolding placedIn
-placed-tab k n p f =
+placed-tab n none f = refl
+placed-tab n (some p) f =
     split n p
     (λ h. rw (le-ltb p n h) refl)
     (λ h. rw (getD-tab n f p [] h) refl)
-
--- what an add asks
-abbrev pub Asked : ℕ → New → ℕ → (ℕ → List ℕ) → Bool
-Asked N new n f =
-    placedIn nobody f n (new .parent)
-    && (ltb n N
-    && (reads (new .list)
-    && (ordinary (new .owner)
-    && (ordinary (new .group)
-    && shortIf (new .list)))))
 
 module _ (N S : ℕ) (e : List ℕ) (n : ℕ) (f : ℕ → List ℕ) (ls : List MaybeList) (us : List Undo) where
   pub alter-after : (i : ℕ) (ed : Edit) → i < n → fine ed ≡ true
@@ -74,15 +63,15 @@ module _ (N S : ℕ) (e : List ℕ) (n : ℕ) (f : ℕ → List ℕ) (ls : List 
   unfolding after edited rules change
   alter-none i ed h = rw (length-tab n f, h) refl
 
-  pub add-after : (new : New) → Asked N new n f ≡ true
+  pub add-after : (new : New) → addable N new n f ≡ true
       → after (rules N e) S (record { own = tab n f; lists = ls; kept = us }) (edit (add new))
-      ≡ settled (rules N e) S (tab (n + 1) (upd n (blockFor new) f)) (take S (off ∷ us)) (work e (tab (n + 1) (upd n (blockFor new) f)))
+      ≡ settled (rules N e) S (tab (n + 1) (upd n (blockFor (objectFor new)) f)) (take S (off ∷ us)) (work e (tab (n + 1) (upd n (blockFor (objectFor new)) f)))
   unfolding after edited rules change keep
-  add-after new h = rw (length-tab n f, placed-tab nobody n (new .parent) f, h, more-tab n (blockFor new) f) refl
+  add-after new h = rw (length-tab n f, placed-tab n (parentIn nobody (new .parent)) f, h, more-tab n (blockFor (objectFor new)) f) refl
 
-  pub add-none : (new : New) → Asked N new n f ≡ false → after (rules N e) S (record { own = tab n f; lists = ls; kept = us }) (edit (add new)) ≡ none
+  pub add-none : (new : New) → addable N new n f ≡ false → after (rules N e) S (record { own = tab n f; lists = ls; kept = us }) (edit (add new)) ≡ none
   unfolding after edited rules change
-  add-none new h = rw (length-tab n f, placed-tab nobody n (new .parent) f, h) refl
+  add-none new h = rw (length-tab n f, placed-tab n (parentIn nobody (new .parent)) f, h) refl
 
   pub undo-none : us ≡ [] → after (rules N e) S (record { own = tab n f; lists = ls; kept = us }) undo ≡ none
   unfolding after undone

@@ -23,27 +23,27 @@ use Rattle.tree.specs.Model.{shortIf}
 use Rattle.tree.specs.declared.Answer.{Answer}
 use Rattle.tree.specs.declared.Answer.the-variants.{Done, Refused}
 use Rattle.tree.specs.General.{isSome, rest, bind, tab}
-use Rattle.tree.specs.Held.{New, held, isDone, slotOk, blockFor, kindByte}
+use Rattle.tree.specs.Held.{held, isDone, slotOk, parentIn, blockFor, kindByte}
 use Rattle.tree.specs.Room.{objectLimit, stepLimit, objects, keptSteps, roomFor, settings, ruleOf, defaultOf, defaultSlot, ownAt, ownData, slot, area}
 use Rattle.tree.specs.Formed.{Head, settingsOk, placedIn, formed}
-use Rattle.tree.specs.Calls.{Outcome, refuse, Edit, list, mark, owners, onReadingTo, readableTo, toldAs, onObject, editAt, editBytes, tested, changed, changeEnds, nobody}
+use Rattle.tree.specs.Calls.{Outcome, refuse, Edit, list, mark, owners, onReadingTo, readableTo, toldAs, onObject, editAt, editBytes, editPut, addPut, tested, changed, changeEnds, changeTo, New, nobody, objectFor}
 use Rattle.tree.specs.Calls.{addTo, alterTo, undoTo, startOk, startTo, answerValues, listBytes, copied, dataOf, listTo, ownTo, dataTo, countsTo, ChangeGiven, add, alter}
 use Rattle.tree.proofs.History.{Call, edit, undo, Past, settled, edited, after, remains, next, noted, unnoted, accepts, afresh}
-use Rattle.tree.proofs.Replay.{Blocks, Undo, reads, fine, when, change, keep, work, rules, shown, Tree}
+use Rattle.tree.proofs.Replay.{Blocks, Undo, reads, fine, addable, when, change, keep, work, rules, shown, Tree}
 use Rattle.tree.proofs.Played.{callTo, accepted, played}
 use Rattle.tree.proofs.Tab.{length-tab, getD-tab}
 use Rattle.tree.proofs.Areas.{area-byte, area-length, area-ready}
 use Rattle.tree.proofs.Became.{change-became}
 use Rattle.tree.proofs.Machine.{placed-tab}
 use Rattle.tree.proofs.Keeps.{Formed, formed-facts, facts-formed}
-use Rattle.tree.proofs.Blocks.{new-shows, type-part, block-sound}
+use Rattle.tree.proofs.Blocks.{length-guid, new-shows, type-part, block-sound}
 use Rattle.tree.proofs.Edits.{edit-fits}
 use Rattle.tree.proofs.Answered.{need-yes, start-facts}
 use Rattle.tree.proofs.Plays.{Passes, on, stop, then, need-first, reads-first, tested-first, accepted-told, call-ends}
 use Rattle.tree.proofs.Slots.{slot-reads}
 use Rattle.tree.proofs.Turns.{owned-ordered}
 use Rattle.tree.specs.Model as Model
-use Rattle.tree.specs.Shown.{settingsIn, parentIn, objectIn, objectsIn, objectFor, alteration, changeMeant, changeWith}
+use Rattle.tree.specs.Shown.{settingsIn, objectIn, objectsIn, alteration, changeMeant, changeWith}
 use Rattle.tree.proofs.Likeness.{map-more, Good, objectsFrom, change-like, work-like, list-like}
 
 -- ---- one test of a call, and of the model
@@ -111,31 +111,14 @@ unfolding objectsIn
 object-at r i h = getD-tab (objects r) (λ i. objectIn (ownData i r)) i Model.no-object h
 
 -- the place of a new object
-placed-is : (r : List ℕ) (p : ℕ) → objects r ≤ 64 → placedIn nobody (λ j. ownData j r) (objects r) p ≡ Model.placed (objectsIn r) (parentIn nobody p)
+placed-is : (r : List ℕ) (q : Option ℕ) → placedIn (λ j. ownData j r) (objects r) q ≡ Model.placed (objectsIn r) q
 unfolding placedIn Model.placed
-placed-is r p few = by (eqb p nobody) refl
-  where
-    same : (b : Bool) → cond b true false ≡ b
-    same true = refl
-    same false = refl
-
-    by : (b : Bool) → eqb p nobody ≡ b
-        → cond (eqb (objects r) 0) b (ltb p (objects r) && eqb (kindByte (ownData p r)) 1) ≡ Model.placed (objectsIn r) (cond b none (some p))
-    by true e =
-        let q = eqb-true p nobody e in
-        let l : ltb p (objects r) ≡ false = le-ltb p (objects r) (omega arith) in
-        rw (l, objects-length r) (same (eqb (objects r) 0))
-    by false e =
-        rw (objects-length r)
-        (split (objects r) p
-        (λ h. let l : ltb p (objects r) ≡ false = le-ltb p (objects r) h in rw l (none-there (eqb (objects r) 0)))
-        (λ h.
-        let z : eqb (objects r) 0 ≡ false = ne-eqb (objects r) 0 (λ z. omega arith) in
-        rw (z, object-at r p h) refl))
-      where
-        none-there : (b : Bool) → cond b false false ≡ false
-        none-there true = refl
-        none-there false = refl
+placed-is r none = rw (objects-length r) refl
+placed-is r (some p) =
+    rw (objects-length r)
+    (split (objects r) p
+    (λ h. rw (le-ltb p (objects r) h) refl)
+    (λ h. rw (object-at r p h) refl))
 
 pub own-long : (r : List ℕ) → Head r → (i : ℕ) → i < objects r → length (ownData i r) ≡ 1184
 unfolding ownData
@@ -235,10 +218,10 @@ module _ (r : List ℕ) (F : Formed r) where
 
   -- ---- an alteration
 
-  alter-is : (i : ℕ) (e : Edit) → i < objects r → fine e ≡ true → callTo (edit (alter i e)) r ≡ changeEnds i r (changed 2 i (editAt e) (editBytes e) (objects r) (area r))
+  alter-is : (i : ℕ) (e : Edit) → i < objects r → fine e ≡ true → callTo (edit (alter i e)) r ≡ changeTo (editPut i e (objects r)) r
   unfolding callTo alterTo onObject
   alter-is i e h f =
-      let go : Outcome = changeEnds i r (changed 2 i (editAt e) (editBytes e) (objects r) (area r)) in
+      let go : Outcome = changeTo (editPut i e (objects r)) r in
       passed-on (formed r && (ltb i (objects r) && fine e))
       (then r _ _ go (formed r) (ltb i (objects r) && fine e) (need-first (formed r) 13 r _)
       (then r _ _ go (ltb i (objects r)) (fine e) (need-first (ltb i (objects r)) 9 r _) (tested-first e r go)))
@@ -250,7 +233,7 @@ module _ (r : List ℕ) (F : Formed r) where
   alter-change i e h f = rw (lt-ltb i (length (shown r .own)) (omega (arith, shown-length r)), f) refl
 
   alter-go : (i : ℕ) (e : Edit) → i < objects r → fine e ≡ true
-      → said (changeEnds i r (changed 2 i (editAt e) (editBytes e) (objects r) (area r))) ≡ Model.outcome t (Model.apply (alteration i e) (objectsIn r)) i
+      → said (changeTo (editPut i e (objects r)) r) ≡ Model.outcome t (Model.apply (alteration i e) (objectsIn r)) i
   unfolding changeMeant
   alter-go i e h f =
       let H : Head r = F .head in
@@ -258,7 +241,7 @@ module _ (r : List ℕ) (F : Formed r) where
       let fits : editAt e + length (editBytes e) ≤ 1184 = omega (arith, edit-fits e f) in
       go-as (alter i e) _ i _ (alter-change i e h f) (alter-is i e h f)
       (rw (length-set (shown r .own) i (putAt (editAt e) (editBytes e) (getD (shown r .own) i [])), shown-length r) h) (omega (arith, H .within))
-      (λ w q. change-became (area r) (area-ready r H) 2 i (editAt e) (editBytes e) (objects r) (omega (arith, H .within)) (omega (arith, H .within)) fits w q .size
+      (λ w q. change-became (area r) (area-ready r H) (editPut i e (objects r)) (omega (arith, H .within)) (omega (arith, H .within)) fits w q .size
       ∙ area-length r H)
 
   alter-as : (i : ℕ) (e : Edit) → said (alterTo i e r) ≡ Model.changeAnswer t (objectsIn r) (alteration i e)
@@ -284,19 +267,13 @@ module _ (r : List ℕ) (F : Formed r) where
 
   -- what it asks
   asks : New → Bool
-  asks new =
-      placedIn nobody (λ j. ownData j r) (objects r) (new .parent)
-      && (ltb (objects r) (objectLimit r)
-      && (reads (new .list)
-      && (ordinary (new .owner)
-      && (ordinary (new .group)
-      && shortIf (new .list)))))
+  asks new = addable (objectLimit r) new (objects r) (λ j. ownData j r)
 
-  add-is : (new : New) → asks new ≡ true → callTo (edit (add new)) r ≡ changeEnds (objects r) r (changed 1 (objects r) 0 (blockFor new) (objects r + 1) (area r))
+  add-is : (new : New) → asks new ≡ true → callTo (edit (add new)) r ≡ changeTo (addPut (objectFor new) (objects r)) r
   unfolding callTo addTo asks
   add-is new ask =
-      let go : Outcome = changeEnds (objects r) r (changed 1 (objects r) 0 (blockFor new) (objects r + 1) (area r)) in
-      let at = placedIn nobody (λ j. ownData j r) (objects r) (new .parent) in
+      let go : Outcome = changeTo (addPut (objectFor new) (objects r)) r in
+      let at = placedIn (λ j. ownData j r) (objects r) (parentIn nobody (new .parent)) in
       passed-on (formed r && asks new)
       (then r _ _ go (formed r) _ (need-first (formed r) 13 r _)
       (then r _ _ go at _ (need-first at 9 r _)
@@ -306,36 +283,35 @@ module _ (r : List ℕ) (F : Formed r) where
       (then r _ _ go (ordinary (new .group)) (shortIf (new .list)) (need-first (ordinary (new .group)) 6 r _) (need-first (shortIf (new .list)) 8 r go)))))))
       (rw (facts-formed r F) ask)
 
-  add-change : (new : New) → asks new ≡ true → change (objectLimit r) (add new) (shown r .own) ≡ some (shown r .own ++ (blockFor new ∷ []))
+  add-change : (new : New) → asks new ≡ true → change (objectLimit r) (add new) (shown r .own) ≡ some (shown r .own ++ (blockFor (objectFor new) ∷ []))
   unfolding change shown asks
-  add-change new ask = rw (length-tab (objects r) (λ i. ownData i r), placed-tab nobody (objects r) (new .parent) (λ j. ownData j r), ask) refl
+  add-change new ask = rw (length-tab (objects r) (λ i. ownData i r), placed-tab (objects r) (parentIn nobody (new .parent)) (λ j. ownData j r), ask) refl
 
   add-go : (new : New) → asks new ≡ true
-      → said (changeEnds (objects r) r (changed 1 (objects r) 0 (blockFor new) (objects r + 1) (area r)))
+      → said (changeTo (addPut (objectFor new) (objects r)) r)
       ≡ Model.outcome t (Model.apply (Model.add (objectFor new)) (objectsIn r)) (objects r)
   unfolding changeMeant asks
   add-go new ask =
       let H : Head r = F .head in
-      let t₁ = both-true (placedIn nobody (λ j. ownData j r) (objects r) (new .parent)) _ ask in
+      let t₁ = both-true (placedIn (λ j. ownData j r) (objects r) (parentIn nobody (new .parent))) _ ask in
       let t₂ = both-true (ltb (objects r) (objectLimit r)) _ (t₁ .1) in
       let t₃ = both-true (reads (new .list)) _ (t₂ .1) in
       let t₄ = both-true (ordinary (new .owner)) _ (t₃ .1) in
       let t₅ = both-true (ordinary (new .group)) (shortIf (new .list)) (t₄ .1) in
       let k : objects r < objectLimit r = ltb-true (objects r) (objectLimit r) (t₂ .0) in
       let a = area-byte r 0 (omega arith) in
-      let x = new-shows new (t₄ .0) (t₅ .0) (t₅ .1) in
+      let x = new-shows (objectFor new) (length-guid (new .type) 0) (t₄ .0) (t₅ .0) (t₅ .1) in
       go-as (add new) _ (objects r) _ (add-change new ask) (add-is new ask)
       (simp length-append (omega (arith, shown-length r))) k
-      (λ w q. change-became (area r) (area-ready r H) 1 (objects r) 0 (blockFor new) (objects r + 1) (omega arith) (omega arith) (omega (arith, x .long)) w q .size
+      (λ w q. change-became (area r) (area-ready r H) (addPut (objectFor new) (objects r)) (omega arith) (omega arith) (omega (arith, x .long)) w q .size
       ∙ area-length r H)
 
-  add-as : (new : New) → said (addTo new r) ≡ Model.changeAnswer t (objectsIn r) (Model.add (objectFor new))
+  add-as : (new : New) → said (addTo (objectFor new) r) ≡ Model.changeAnswer t (objectsIn r) (Model.add (objectFor new))
   unfolding addTo Model.changeAnswer asks
   add-as new =
-      let few : objects r ≤ 64 = omega (arith, F .head .within, F .head .limit-64) in
       ap said (need-yes 13 r _ (facts-formed r F))
       ∙ rw (objects-length r)
-      (test-as (placedIn nobody (λ j. ownData j r) (objects r) (new .parent)) _ 9 r _ _ (placed-is r (new .parent) few) (λ h₁.
+      (test-as (placedIn (λ j. ownData j r) (objects r) (parentIn nobody (new .parent))) _ 9 r _ _ (placed-is r (parentIn nobody (new .parent))) (λ h₁.
       need-as (ltb (objects r) (objectLimit r)) 10 r _ _ (λ h₂.
       readable-as 2 r _ _ (new .list) (λ h₃.
       need-as (ordinary (new .owner)) 6 r _ _ (λ h₄.

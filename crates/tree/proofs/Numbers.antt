@@ -16,16 +16,16 @@ use Rattle.list.proofs.Answers.{ListNumber, list-number}
 use Rattle.inherit.specs.Asked.{MaybeList}
 use Rattle.list.specs.Answer.{Values}
 use Rattle.list.proofs.Tests.{off}
-use Rattle.inherit.specs.declared.Mapping.{Mapping}
 use Rattle.tree.specs.declared.Answer.{Answer}
 use Rattle.tree.specs.declared.Answer.the-variants.{Done, Refused}
 use Rattle.tree.specs.Calls.{Outcome, refuse, isRefused, Says, Promised, Edit, list, mark, owners, ChangeGiven, add, alter, onReadingTo, readableTo, toldAs, onObject, tested, changeEnds, undoEnds, addTo, alterTo}
-use Rattle.tree.specs.Calls.{undoTo, startTo, answerValues, copied, listTo, ownTo, dataTo, countsTo}
-use Rattle.tree.specs.Held.{New, held, ownList, yes}
+use Rattle.tree.specs.Calls.{objectFor, undoTo, startTo, answerValues, copied, listTo, ownTo, dataTo, countsTo}
+use Rattle.tree.specs.Model.{Settings, Object}
+use Rattle.tree.specs.Held.{held, ownList, yes}
 use Rattle.tree.specs.Room.{objects, keptSteps, ownData, slot}
 use Rattle.tree.specs.Formed.{formed}
 use Rattle.tree.proofs.Played.{accepted}
-use Rattle.tree.specs.Shown.{Begin, startWith, changeWith}
+use Rattle.tree.specs.Shown.{changeWith}
 
 -- ---- values and answers
 
@@ -117,16 +117,20 @@ numbered-tested (list l) r o h = numbered-readable 2 r _ (numbered-need _ 8 r o 
 numbered-tested (mark m) r o h = h
 numbered-tested (owners x y) r o h = numbered-need _ 6 r _ (λ z. omega arith) (numbered-need _ 6 r o (λ z. omega arith) h)
 
-pub change-numbered : (c : ChangeGiven) (r : List ℕ) → Numbered (changeWith c r .answer)
-unfolding changeWith addTo alterTo onObject
-change-numbered (add new) r =
+pub add-numbered : (o : Object) (r : List ℕ) → Numbered (addTo o r .answer)
+unfolding addTo
+add-numbered o r =
     numbered-need _ 13 r _ (λ z. omega arith)
     (numbered-need _ 9 r _ (λ z. omega arith)
     (numbered-need _ 10 r _ (λ z. omega arith)
     (numbered-readable 2 r _
     (numbered-need _ 6 r _ (λ z. omega arith)
     (numbered-need _ 6 r _ (λ z. omega arith)
-    (numbered-need _ 8 r _ (λ z. omega arith) (numbered-finish _ r _)))) (new .list))))
+    (numbered-need _ 8 r _ (λ z. omega arith) (numbered-finish _ r _)))) (o .list))))
+
+pub change-numbered : (c : ChangeGiven) (r : List ℕ) → Numbered (changeWith c r .answer)
+unfolding changeWith alterTo onObject
+change-numbered (add new) r = add-numbered (objectFor new) r
 change-numbered (alter i e) r =
     numbered-need _ 13 r _ (λ z. omega arith) (numbered-need _ 9 r _ (λ z. omega arith) (numbered-tested e r _ (numbered-finish i r _)))
 
@@ -134,21 +138,18 @@ pub undo-numbered : (r : List ℕ) → Numbered (undoTo r .answer)
 unfolding undoTo
 undo-numbered r = numbered-need _ 13 r _ (λ z. omega arith) (numbered-need _ 11 r _ (λ z. omega arith) (numbered-undone r _))
 
-pub start-numbered : (b : Begin) (r : List ℕ) → Numbered (startWith b r .answer)
+pub start-numbered : (t : Settings) (r : List ℕ) → Numbered (startTo t r .answer)
 unfolding startTo
-start-numbered b r = numbered-need _ 12 r _ (λ z. omega arith) (numbered-readable 3 r _ (numbered-need _ 8 r _ (λ z. omega arith) tt) (b .default))
+start-numbered t r = numbered-need _ 12 r _ (λ z. omega arith) (numbered-readable 3 r _ (numbered-need _ 8 r _ (λ z. omega arith) tt) (t .default))
 
 -- ---- the promise of each call, from its definition's case
 
 module _ (r : List ℕ) {a : Answer} {x : List ℕ} where
-  pub start-promised : (n s rule : ℕ) (m : Mapping) (default : MaybeList) → (a ≡ startTo n s rule m default r .answer) × (x ≡ startTo n s rule m default r .bytes)
-      → Promised (startTo n s rule m default r) a x
-  start-promised n s rule m default p =
-      promised (startTo n s rule m default r) (start-numbered (record { objects = n; steps = s; rule = rule; mapping = m; default = default }) r) p
+  pub start-promised : (t : Settings) → (a ≡ startTo t r .answer) × (x ≡ startTo t r .bytes) → Promised (startTo t r) a x
+  start-promised t p = promised (startTo t r) (start-numbered t r) p
 
-  pub add-promised : (new : New) → (a ≡ addTo new r .answer) × (x ≡ addTo new r .bytes) → Promised (addTo new r) a x
-  unfolding changeWith
-  add-promised new p = promised (addTo new r) (change-numbered (add new) r) p
+  pub add-promised : (o : Object) → (a ≡ addTo o r .answer) × (x ≡ addTo o r .bytes) → Promised (addTo o r) a x
+  add-promised o p = promised (addTo o r) (add-numbered o r) p
 
   pub alter-promised : (i : ℕ) (e : Edit) → (a ≡ alterTo i e r .answer) × (x ≡ alterTo i e r .bytes) → Promised (alterTo i e r) a x
   unfolding changeWith

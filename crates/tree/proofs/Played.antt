@@ -4,12 +4,12 @@ use mathlib.Core.List.{List, [], _∷_}
 use Prim.Native.Nat.{ℕ}
 use Rattle.tree.specs.declared.Answer.{Answer}
 use Rattle.tree.specs.declared.Answer.the-variants.{Done, Refused}
-use Rattle.tree.specs.Calls.{Outcome, addTo, alterTo, undoTo, ChangeGiven, add, alter}
+use Rattle.tree.specs.Calls.{Outcome, objectFor, addTo, alterTo, undoTo, ChangeGiven, add, alter}
 use Rattle.tree.proofs.History.{Call, edit, undo}
 
 -- one call
 unfoldable pub callTo : Call ChangeGiven → List ℕ → Outcome
-callTo (edit (add new)) r = addTo new r
+callTo (edit (add new)) r = addTo (objectFor new) r
 callTo (edit (alter i e)) r = alterTo i e r
 callTo undo r = undoTo r
 

@@ -22,32 +22,32 @@ use Rattle.inherit.specs.Asked.{MaybeList}
 use Rattle.inherit.specs.Compute.{ordinary}
 use Rattle.tree.specs.Model.{shortIf}
 use Rattle.tree.specs.General.{tab}
-use Rattle.tree.specs.Held.{New, held, isDone, blockFor}
+use Rattle.tree.specs.Held.{held, isDone, parentIn, blockFor}
 use Rattle.tree.specs.Room.{objectLimit, stepLimit, objects, keptSteps, settings, ownData, slot, step, stepTag, stepObject, stepData, area}
 use Rattle.tree.specs.Formed.{Head, placedIn, stepsOk, formed}
 use Rattle.list.specs.Order.{need}
 use Rattle.tree.specs.Calls.{Edit, list, mark, owners, Outcome, refuse, onReadingTo, readableTo, onObject, tested, toldAs as told-in, ChangeGiven, add, alter}
-use Rattle.tree.specs.Calls.{editAt, editBytes, changed, latest, standingAfter, stepTakenBack, changeEnds, undoEnds, nobody, addTo, alterTo, undoTo}
+use Rattle.tree.specs.Calls.{editAt, editBytes, editPut, addPut, changed, changeTo, latest, standingAfter, stepTakenBack, changeEnds, undoEnds, New, nobody, objectFor, addTo, alterTo, undoTo}
 use Rattle.tree.proofs.History.{Call, edit, undo, settled, after}
-use Rattle.tree.proofs.Replay.{Undo, off, again, Tree, reads, fine, when, work, rules, undoIn, shown}
+use Rattle.tree.proofs.Replay.{Undo, off, again, Tree, reads, fine, addable, when, work, rules, undoIn, shown}
 use Rattle.tree.proofs.Played.{callTo, accepted}
 use Rattle.tree.proofs.Applied.{upd, upd-other, ahead, Adds, Again}
 use Rattle.tree.proofs.Turns.{Owned, owned-off, owned-put, owned-add, put-steps, add-steps, latest as latest-of, back-steps, off-steps}
 use Rattle.tree.proofs.Tab.{tab-push, tab-first}
 use Rattle.tree.proofs.Paths.{inOrder}
-use Rattle.tree.proofs.Blocks.{new-shows, new-good}
+use Rattle.tree.proofs.Blocks.{length-guid, new-shows, new-good}
 use Rattle.tree.proofs.Edits.{edit-fits, edit-keeps, edit-good}
 use Rattle.tree.proofs.Areas.{tab-as, area-byte, area-length, area-ready, area-settings, area-own, area-slot, area-step}
 use Rattle.tree.proofs.Became.{Became, change-became, change-refused, undo-became, undo-refused}
-use Rattle.tree.proofs.Keeps.{Formed, formed-facts, facts-formed, steps-as, work-as, new-limit, new-depth, new-length, new-settings, new-formed}
+use Rattle.tree.proofs.Keeps.{Formed, formed-facts, facts-formed, steps-as, work-as, new-limit, new-step-limit, new-length, new-settings, new-formed}
 use Rattle.tree.proofs.Keeps.{new-shown}
-use Rattle.tree.proofs.Machine.{Asked, alter-after, alter-none, add-after, add-none, undo-none, undo-off, undo-again}
+use Rattle.tree.proofs.Machine.{alter-after, alter-none, add-after, add-none, undo-none, undo-off, undo-again}
 
 -- how a call on r ends, where the machine gives m
 pub record Ends (r : List ℕ) (o : Outcome) (m : Option Tree) : Type 0 where
   pub well : Formed (o .bytes)
   pub limits : objectLimit (o .bytes) ≡ objectLimit r
-  pub depths : stepLimit (o .bytes) ≡ stepLimit r
+  pub step-limits : stepLimit (o .bytes) ≡ stepLimit r
   pub same-settings : settings (o .bytes) ≡ settings r
   pub size : length (o .bytes) ≡ length r
   pub told : m ≡ when (accepted (o .answer)) (shown (o .bytes))
@@ -62,7 +62,7 @@ accepted-told (some s) = refl
 -- ---- refusals
 
 pub refused-ends : (r : List ℕ) → Formed r → (k which at : ℕ) (m : Option Tree) → m ≡ none → Ends r (refuse k which at r) m
-refused-ends r F k which at m e = record { well = F; limits = refl; depths = refl; same-settings = refl; size = refl; told = e; stays = λ z. refl }
+refused-ends r F k which at m e = record { well = F; limits = refl; step-limits = refl; same-settings = refl; size = refl; told = e; stays = λ z. refl }
 
 pub record Refuses (r : List ℕ) (o : Outcome) : Type 0 where
   pub number : ℕ
@@ -138,9 +138,10 @@ unfolding undoIn
 off-of u t = rw t refl
 
 -- the same place below own data that is the same
-placed-as : (k n p : ℕ) (f f′ : ℕ → List ℕ) → ((j : ℕ) → j < n → f j ≡ f′ j) → placedIn k f n p ≡ placedIn k f′ n p
+placed-as : (n : ℕ) (q : Option ℕ) (f f′ : ℕ → List ℕ) → ((j : ℕ) → j < n → f j ≡ f′ j) → placedIn f n q ≡ placedIn f′ n q
 unfolding placedIn
-placed-as k n p f f′ e = split n p (λ q. rw (le-ltb p n q) refl) (λ q. rw (e p q) refl)
+placed-as n none f f′ e = refl
+placed-as n (some p) f f′ e = split n p (λ q. rw (le-ltb p n q) refl) (λ q. rw (e p q) refl)
 
 refused-as : (e x : List ℕ) (f : ℕ → List ℕ) (n n′ i i′ : ℕ) → n ≡ n′ → i ≡ i′ → inOrder e (tab n (upd i x f)) n ≡ none
     → inOrder e (tab n′ (upd i′ x f)) n′ ≡ none
@@ -161,8 +162,8 @@ module _ (r : List ℕ) (F : Formed r) where
   a-limit : objectLimit (area r) ≡ objectLimit r
   a-limit = area-byte r 0 (omega arith)
 
-  a-depth : stepLimit (area r) ≡ stepLimit r
-  a-depth = area-byte r 1 (omega arith)
+  a-step-limit : stepLimit (area r) ≡ stepLimit r
+  a-step-limit = area-byte r 1 (omega arith)
 
   a-objects : objects (area r) ≡ objects r
   a-objects = area-byte r 2 (omega arith)
@@ -237,7 +238,7 @@ module _ (r : List ℕ) (F : Formed r) where
         (
           new-limit r F w n f k g B hn hk O T,
           (
-            new-depth r F w n f k g B hn hk O T,
+            new-step-limit r F w n f k g B hn hk O T,
             (
               new-settings r F w n f k g B hn hk O T,
               (
@@ -259,7 +260,7 @@ module _ (r : List ℕ) (F : Formed r) where
       record {
         well = t .0;
         limits = t .1 .0;
-        depths = t .1 .1 .0;
+        step-limits = t .1 .1 .0;
         same-settings = t .1 .1 .1 .0;
         size = t .1 .1 .1 .1 .0;
         told = rw a (t .1 .1 .1 .1 .1);
@@ -273,7 +274,7 @@ module _ (r : List ℕ) (F : Formed r) where
       record {
         well = t .0;
         limits = t .1 .0;
-        depths = t .1 .1 .0;
+        step-limits = t .1 .1 .0;
         same-settings = t .1 .1 .1 .0;
         size = t .1 .1 .1 .1 .0;
         told = t .1 .1 .1 .1 .1;
@@ -295,22 +296,22 @@ module _ (r : List ℕ) (F : Formed r) where
   passes-ends o rest true m (on e) go back = subst (λ (x : Outcome). Ends r x m) (sym e) (go refl)
   passes-ends o rest false m (stop x) go back = refuses-ends r F o m x (back refl)
 
-  pushed-steps : (u : List ℕ) → tab (min (stepLimit (area r)) (suc (keptSteps (area r)))) (λ j. undoIn (ahead u g₀ j))
+  kept-steps : (u : List ℕ) → tab (min (stepLimit (area r)) (suc (keptSteps (area r)))) (λ j. undoIn (ahead u g₀ j))
       ≡ take (stepLimit r) (undoIn u ∷ tab (keptSteps r) (λ j. undoIn (g₀ j)))
   unfolding ahead
-  pushed-steps u =
-      rw (a-depth, a-kept)
+  kept-steps u =
+      rw (a-step-limit, a-kept)
       (tab-push (stepLimit r) (keptSteps r) (λ j. undoIn (g₀ j)) (λ j. undoIn (ahead u g₀ j)) (undoIn u) refl (λ i p q. refl))
 
   few-steps : min (stepLimit (area r)) (suc (keptSteps (area r))) ≤ suc (keptSteps r)
-  few-steps = omega (arith, a-depth, a-kept)
+  few-steps = omega (arith, a-step-limit, a-kept)
 
-  deep-steps : min (stepLimit (area r)) (suc (keptSteps (area r))) ≤ stepLimit r
-  deep-steps = omega (arith, a-depth, a-kept)
+  within-limit : min (stepLimit (area r)) (suc (keptSteps (area r))) ≤ stepLimit r
+  within-limit = omega (arith, a-step-limit, a-kept)
 
   -- an alteration whose tests were passed
   alter-goes : (i : ℕ) (e : Edit) → i < objects r → fine e ≡ true
-      → Ends r (changeEnds i r (changed 2 i (editAt e) (editBytes e) (objects r) (area r))) (Next (edit (alter i e)))
+      → Ends r (changeTo (editPut i e (objects r)) r) (Next (edit (alter i e)))
   unfolding f₀ g₀
   alter-goes i e hi he =
       let il : i < objectLimit r = omega (arith, h .within) in
@@ -326,21 +327,21 @@ module _ (r : List ℕ) (F : Formed r) where
       let T = put-steps (objects r) i (keptSteps r) (min (stepLimit (area r)) (suc (keptSteps (area r)))) x u f₀ g₀ O₀ T₀ hi keeps refl refl
       (saved-is 2 i (ownData i (area r)) lo) few-steps in
       let us : List Undo = take (stepLimit r) (undoIn u ∷ tab (keptSteps r) (λ j. undoIn (g₀ j))) in
-      subst (Ends r (changeEnds i r (changed 2 i (editAt e) (editBytes e) (objects r) (area r))))
+      subst (Ends r (changeTo (editPut i e (objects r)) r))
       (sym (next-as (edit (alter i e))
       ∙ alter-after (objectLimit r) (stepLimit r) (settings r) (objects r) f₀ _ _ i e hi he
       ∙ ap (λ (y : Undo). settled (rules (objectLimit r) (settings r)) (stepLimit r) (tab (objects r) (upd i x f₀))
       (take (stepLimit r) (y ∷ tab (keptSteps r) (λ j. undoIn (g₀ j)))) (work (settings r) (tab (objects r) (upd i x f₀)))) (sym (undo-of i (ownData i (area r)) lo))))
       (change-ends i _ _
-      (settles (changed 2 i (editAt e) (editBytes e) (objects r) (area r)) (objects r) (upd i x f₀) (min (stepLimit (area r)) (suc (keptSteps (area r)))) (ahead u g₀) us
-      (omega (arith, h .within)) deep-steps O T (pushed-steps u)
-      (λ w q. change-became (area r) (area-ready r h) 2 i (editAt e) (editBytes e) (objects r) il₁ nl fits w q)
-      (λ q. change-refused (area r) (area-ready r h) 2 i (editAt e) (editBytes e) (objects r) il₁ nl fits q)))
+      (settles (changed (editPut i e (objects r)) (area r)) (objects r) (upd i x f₀) (min (stepLimit (area r)) (suc (keptSteps (area r)))) (ahead u g₀) us
+      (omega (arith, h .within)) within-limit O T (kept-steps u)
+      (λ w q. change-became (area r) (area-ready r h) (editPut i e (objects r)) il₁ nl fits w q)
+      (λ q. change-refused (area r) (area-ready r h) (editPut i e (objects r)) il₁ nl fits q)))
 
   alter-ends : (i : ℕ) (e : Edit) → Ends r (alterTo i e r) (Next (edit (alter i e)))
   unfolding alterTo onObject
   alter-ends i e =
-      let go : Outcome = changeEnds i r (changed 2 i (editAt e) (editBytes e) (objects r) (area r)) in
+      let go : Outcome = changeTo (editPut i e (objects r)) r in
       let F₁ = facts-formed r F in
       passes-ends (alterTo i e r) go (formed r && (ltb i (objects r) && fine e)) (Next (edit (alter i e)))
       (then r _ _ go (formed r) (ltb i (objects r) && fine e) (need-first (formed r) 13 r _)
@@ -351,11 +352,11 @@ module _ (r : List ℕ) (F : Formed r) where
       (λ b. next-as (edit (alter i e)) ∙ alter-none (objectLimit r) (stepLimit r) (settings r) (objects r) f₀ _ _ i e (rw F₁ at b))
 
   -- an add whose tests were passed
-  add-goes : (new : New) → Asked (objectLimit r) new (objects r) f₀ ≡ true
-      → Ends r (changeEnds (objects r) r (changed 1 (objects r) 0 (blockFor new) (objects r + 1) (area r))) (Next (edit (add new)))
+  add-goes : (new : New) → addable (objectLimit r) new (objects r) f₀ ≡ true
+      → Ends r (changeTo (addPut (objectFor new) (objects r)) r) (Next (edit (add new)))
   unfolding f₀ g₀
   add-goes new ask =
-      let t₁ = both-true (placedIn nobody f₀ (objects r) (new .parent)) _ ask in
+      let t₁ = both-true (placedIn f₀ (objects r) (parentIn nobody (new .parent))) _ ask in
       let t₂ = both-true (ltb (objects r) (objectLimit r)) _ (t₁ .1) in
       let t₃ = both-true (reads (new .list)) _ (t₂ .1) in
       let t₄ = both-true (ordinary (new .owner)) _ (t₃ .1) in
@@ -363,16 +364,16 @@ module _ (r : List ℕ) (F : Formed r) where
       let nl : objects r < objectLimit r = ltb-true (objects r) (objectLimit r) (t₂ .0) in
       let nl₁ : objects r < objectLimit (area r) = omega (arith, a-limit) in
       let nl₂ : objects r + 1 ≤ objectLimit (area r) = omega (arith, a-limit) in
-      let shows = new-shows new (t₄ .0) (t₅ .0) (t₅ .1) in
-      let fits : 0 + length (blockFor new) ≤ 1184 = omega (arith, shows .long) in
-      let x : List ℕ = putAt 0 (blockFor new) (ownData (objects r) (area r)) in
-      let ex : x ≡ blockFor new = put-whole (blockFor new) (ownData (objects r) (area r)) (shows .long ∙ sym (own-long (objects r) nl)) in
+      let shows = new-shows (objectFor new) (length-guid (new .type) 0) (t₄ .0) (t₅ .0) (t₅ .1) in
+      let fits : 0 + length (blockFor (objectFor new)) ≤ 1184 = omega (arith, shows .long) in
+      let x : List ℕ = putAt 0 (blockFor (objectFor new)) (ownData (objects r) (area r)) in
+      let ex : x ≡ blockFor (objectFor new) = put-whole (blockFor (objectFor new)) (ownData (objects r) (area r)) (shows .long ∙ sym (own-long (objects r) nl)) in
       let u : List ℕ = 1 ∷ objects r ∷ ownData (objects r) (area r) in
-      let O = owned-add (objects r) (new .parent) x f₀ O₀ (omega (arith, h .limit-64)) (rw ex (new-good new (t₄ .0) (t₅ .0) (t₅ .1) (t₃ .0))) (t₁ .0)
+      let O = owned-add (objects r) (parentIn nobody (new .parent)) x f₀ O₀ (omega (arith, h .limit-64)) (rw ex (new-good (objectFor new) (length-guid (new .type) 0) (t₄ .0) (t₅ .0) (t₅ .1) (t₃ .0))) (t₁ .0)
       (rw ex (shows .parent)) in
       let T = add-steps (objects r) (keptSteps r) (min (stepLimit (area r)) (suc (keptSteps (area r)))) x u f₀ g₀ T₀ refl refl few-steps in
       let us : List Undo = take (stepLimit r) (undoIn u ∷ tab (keptSteps r) (λ j. undoIn (g₀ j))) in
-      subst (Ends r (changeEnds (objects r) r (changed 1 (objects r) 0 (blockFor new) (objects r + 1) (area r))))
+      subst (Ends r (changeTo (addPut (objectFor new) (objects r)) r))
       (sym (next-as (edit (add new))
       ∙ add-after (objectLimit r) (stepLimit r) (settings r) (objects r) f₀ _ _ new ask
       ∙ ap (λ (b : List ℕ). settled (rules (objectLimit r) (settings r)) (stepLimit r) (tab (objects r + 1) (upd (objects r) b f₀))
@@ -380,22 +381,22 @@ module _ (r : List ℕ) (F : Formed r) where
       ∙ ap (λ (y : Undo). settled (rules (objectLimit r) (settings r)) (stepLimit r) (tab (objects r + 1) (upd (objects r) x f₀))
       (take (stepLimit r) (y ∷ tab (keptSteps r) (λ j. undoIn (g₀ j)))) (work (settings r) (tab (objects r + 1) (upd (objects r) x f₀)))) (sym (off-of u refl))))
       (change-ends (objects r) _ _
-      (settles (changed 1 (objects r) 0 (blockFor new) (objects r + 1) (area r)) (objects r + 1) (upd (objects r) x f₀)
+      (settles (changed (addPut (objectFor new) (objects r)) (area r)) (objects r + 1) (upd (objects r) x f₀)
       (min (stepLimit (area r)) (suc (keptSteps (area r)))) (ahead u g₀) us
-      (omega arith) deep-steps O T (pushed-steps u)
-      (λ w q. change-became (area r) (area-ready r h) 1 (objects r) 0 (blockFor new) (objects r + 1) nl₁ nl₂ fits w q)
-      (λ q. change-refused (area r) (area-ready r h) 1 (objects r) 0 (blockFor new) (objects r + 1) nl₁ nl₂ fits q)))
+      (omega arith) within-limit O T (kept-steps u)
+      (λ w q. change-became (area r) (area-ready r h) (addPut (objectFor new) (objects r)) nl₁ nl₂ fits w q)
+      (λ q. change-refused (area r) (area-ready r h) (addPut (objectFor new) (objects r)) nl₁ nl₂ fits q)))
 
-  add-ends : (new : New) → Ends r (addTo new r) (Next (edit (add new)))
+  add-ends : (new : New) → Ends r (addTo (objectFor new) r) (Next (edit (add new)))
   unfolding addTo
   add-ends new =
-      let go : Outcome = changeEnds (objects r) r (changed 1 (objects r) 0 (blockFor new) (objects r + 1) (area r)) in
+      let go : Outcome = changeTo (addPut (objectFor new) (objects r)) r in
       let F₁ = facts-formed r F in
-      let same : placedIn nobody (λ j. ownData j r) (objects r) (new .parent) ≡ placedIn nobody f₀ (objects r) (new .parent) =
-      placed-as nobody (objects r) (new .parent) (λ j. ownData j r) f₀ (λ j q. sym (f-is j (omega (arith, h .within)))) in
-      passes-ends (addTo new r) go (formed r && Asked (objectLimit r) new (objects r) (λ j. ownData j r)) (Next (edit (add new)))
+      let same : placedIn (λ j. ownData j r) (objects r) (parentIn nobody (new .parent)) ≡ placedIn f₀ (objects r) (parentIn nobody (new .parent)) =
+      placed-as (objects r) (parentIn nobody (new .parent)) (λ j. ownData j r) f₀ (λ j q. sym (f-is j (omega (arith, h .within)))) in
+      passes-ends (addTo (objectFor new) r) go (formed r && addable (objectLimit r) new (objects r) (λ j. ownData j r)) (Next (edit (add new)))
       (then r _ _ go (formed r) _ (need-first (formed r) 13 r _)
-      (then r _ _ go (placedIn nobody (λ j. ownData j r) (objects r) (new .parent)) _ (need-first (placedIn nobody (λ j. ownData j r) (objects r) (new .parent)) 9 r _)
+      (then r _ _ go (placedIn (λ j. ownData j r) (objects r) (parentIn nobody (new .parent))) _ (need-first (placedIn (λ j. ownData j r) (objects r) (parentIn nobody (new .parent))) 9 r _)
       (then r _ _ go (ltb (objects r) (objectLimit r)) _ (need-first (ltb (objects r) (objectLimit r)) 10 r _)
       (then r _ _ go (reads (new .list)) _ (reads-first (new .list) 2 r _)
       (then r _ _ go (ordinary (new .owner)) _ (need-first (ordinary (new .owner)) 6 r _)

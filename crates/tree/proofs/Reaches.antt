@@ -15,10 +15,9 @@ use lib.Dec.{leb}
 use borrow.Author.Tests.{leb-true, lt-ltb}
 use Rattle.list.specs.Bytes.{front, part}
 use Rattle.list.proofs.Tests.{both-true, off}
-use Rattle.inherit.specs.declared.Mapping.{Mapping}
 use Rattle.inherit.specs.Asked.{MaybeList}
 use Rattle.inherit.specs.Compute.{ruleOk}
-use Rattle.tree.specs.Model.{shortIf, limitsOk}
+use Rattle.tree.specs.Model.{Settings, shortIf, limitsOk}
 use Rattle.tree.specs.General.{isSome, orElse, tab}
 use Rattle.tree.specs.declared.Answer.the-variants.{Done, Refused}
 use Rattle.tree.specs.Held.{held, ownList}
@@ -80,38 +79,39 @@ keeps r h q =
 
 -- ---- a started tree
 
-module _ (n s rule : ℕ) (m : Mapping) (default : MaybeList) (r : List ℕ) (ok : startOk n s rule (length r) ≡ true) (good : reads default ≡ true)
-    (few : shortIf default ≡ true) where
-  E : List ℕ
-  E = settingsFor rule m default
+-- its settings in their bytes
+abbrev pub settingsBytes : Settings → List ℕ
+settingsBytes t = settingsFor (t .rule) (t .mapping) (t .default)
 
+module _ (t : Settings) (r : List ℕ) (ok : startOk (t .object-limit) (t .step-limit) (t .rule) (length r) ≡ true) (good : reads (t .default) ≡ true)
+    (few : shortIf (t .default) ≡ true) where
   first : List ℕ
-  first = front (emptyRoom n s rule m default) r
+  first = front (emptyRoom t) r
 
-  limits : ((1 ≤ n) × ((n ≤ 64) × (s ≤ 64))) × ((ruleOk rule ≡ true) × (roomFor n s ≤ length r))
+  limits : ((1 ≤ t .object-limit) × ((t .object-limit ≤ 64) × (t .step-limit ≤ 64))) × ((ruleOk (t .rule) ≡ true) × (roomFor (t .object-limit) (t .step-limit) ≤ length r))
   unfolding startOk limitsOk
   limits =
-      let a = both-true (limitsOk n s) (ruleOk rule && leb (roomFor n s) (length r)) ok in
-      let b = both-true (leb 1 n) (leb n 64 && leb s 64) (a .0) in
-      let c = both-true (leb n 64) (leb s 64) (b .1) in
-      let d = both-true (ruleOk rule) (leb (roomFor n s) (length r)) (a .1) in
-      ((leb-true 1 n (b .0), (leb-true n 64 (c .0), leb-true s 64 (c .1))), (d .0, leb-true (roomFor n s) (length r) (d .1)))
+      let a = both-true (limitsOk (t .object-limit) (t .step-limit)) (ruleOk (t .rule) && leb (roomFor (t .object-limit) (t .step-limit)) (length r)) ok in
+      let b = both-true (leb 1 (t .object-limit)) (leb (t .object-limit) 64 && leb (t .step-limit) 64) (a .0) in
+      let c = both-true (leb (t .object-limit) 64) (leb (t .step-limit) 64) (b .1) in
+      let d = both-true (ruleOk (t .rule)) (leb (roomFor (t .object-limit) (t .step-limit)) (length r)) (a .1) in
+      ((leb-true 1 (t .object-limit) (b .0), (leb-true (t .object-limit) 64 (c .0), leb-true (t .step-limit) 64 (c .1))), (d .0, leb-true (roomFor (t .object-limit) (t .step-limit)) (length r) (d .1)))
 
-  empty-length : length (emptyRoom n s rule m default) ≡ roomFor n s
+  empty-length : length (emptyRoom t) ≡ roomFor (t .object-limit) (t .step-limit)
   unfolding emptyRoom
-  empty-length = simp (length-append, length-replicate, length-settings rule m default few) (omega arith)
+  empty-length = simp (length-append, length-replicate, length-settings (t .rule) (t .mapping) (t .default) few) (omega arith)
 
   first-length : length first ≡ length r
   unfolding first
   first-length = simp (length-append, length-drop) (omega (arith, empty-length, limits .1 .1))
 
-  first-limit : objectLimit first ≡ n
+  first-limit : objectLimit first ≡ t .object-limit
   unfolding first emptyRoom
   first-limit = refl
 
-  first-depth : stepLimit first ≡ s
+  first-step-limit : stepLimit first ≡ t .step-limit
   unfolding first emptyRoom
-  first-depth = refl
+  first-step-limit = refl
 
   first-objects : objects first ≡ 0
   unfolding first emptyRoom
@@ -121,13 +121,13 @@ module _ (n s rule : ℕ) (m : Mapping) (default : MaybeList) (r : List ℕ) (ok
   unfolding first emptyRoom
   first-kept = refl
 
-  first-settings : settings first ≡ settingsFor rule m default
+  first-settings : settings first ≡ settingsBytes t
   unfolding first emptyRoom settings part
   first-settings =
-      let z : List ℕ = replicate (n * 2211 + s * 1186) 0 in
-      let w : List ℕ = (n ∷ s ∷ 0 ∷ 0 ∷ []) ++ (settingsFor rule m default ++ z) in
-      rw (append-assoc (settingsFor rule m default) z (drop (length w) r))
-      (take-at (settingsFor rule m default) (z ++ drop (length w) r) 1044 (length-settings rule m default few))
+      let z : List ℕ = replicate (t .object-limit * 2211 + t .step-limit * 1186) 0 in
+      let w : List ℕ = (t .object-limit ∷ t .step-limit ∷ 0 ∷ 0 ∷ []) ++ (settingsBytes t ++ z) in
+      rw (append-assoc (settingsBytes t) z (drop (length w) r))
+      (take-at (settingsBytes t) (z ++ drop (length w) r) 1044 (length-settings (t .rule) (t .mapping) (t .default) few))
 
   first-formed : formed first ≡ true
   unfolding stepsOk
@@ -140,18 +140,18 @@ module _ (n s rule : ℕ) (m : Mapping) (default : MaybeList) (r : List ℕ) (ok
               long = omega (arith, first-length, l .1 .1);
               some-limit = omega (arith, first-limit, l .0 .0);
               limit-64 = omega (arith, first-limit, l .0 .1 .0);
-              depth-64 = omega (arith, first-depth, l .0 .1 .1);
+              steps-64 = omega (arith, first-step-limit, l .0 .1 .1);
               within = omega (arith, first-objects);
               kept-within = omega (arith, first-kept);
-              room-enough = rw (first-limit, first-depth, first-length) (l .1 .1);
+              room-enough = rw (first-limit, first-step-limit, first-length) (l .1 .1);
             };
-        settings-ok = rw first-settings (settings-good rule m default few (l .1 .0) good);
+        settings-ok = rw first-settings (settings-good (t .rule) (t .mapping) (t .default) few (l .1 .0) good);
         owned = λ i q. absurd (omega (arith, first-objects));
         slots = λ i q. absurd (omega (arith, first-objects));
         steps = rw first-kept refl;
       })
 
-  first-shown : shown first ≡ start (rules n (settingsFor rule m default)) s
+  first-shown : shown first ≡ start (rules (t .object-limit) (settingsBytes t)) (t .step-limit)
   unfolding shown tab start rules
   first-shown = rw (first-objects, first-kept) refl
 
@@ -161,7 +161,7 @@ module _ (n s : ℕ) (e : List ℕ) where
   record Good (r : List ℕ) (t : Tree) : Type 0 where
     well : formed r ≡ true
     limits-are : objectLimit r ≡ n
-    depth-is : stepLimit r ≡ s
+    step-limit-is : stepLimit r ≡ s
     settings-are : settings r ≡ e
     shows : shown r ≡ t
 
@@ -177,12 +177,12 @@ module _ (n s : ℕ) (e : List ℕ) where
   call-good r t q g =
       let X = call-ends r (g .well) q in
       let a : after (rules n e) s t q ≡ when (accepted (callTo q r .answer)) (shown (callTo q r .bytes)) =
-      rw (← g .shows, ← g .limits-are, ← g .depth-is, ← g .settings-are) (X .told) in
+      rw (← g .shows, ← g .limits-are, ← g .step-limit-is, ← g .settings-are) (X .told) in
       let c = call-by r (callTo q r .bytes) t (after (rules n e) s t q) (accepted (callTo q r .answer)) (g .shows) a (X .stays) in (
         record {
           well = facts-formed (callTo q r .bytes) (X .well);
           limits-are = X .limits ∙ g .limits-are;
-          depth-is = X .depths ∙ g .depth-is;
+          step-limit-is = X .step-limits ∙ g .step-limit-is;
           settings-are = X .same-settings ∙ g .settings-are;
           shows = c .0;
         },
@@ -237,7 +237,7 @@ read-shown r out i h k =
 pub record Reached (n s : ℕ) (e r : List ℕ) (qs : List (Call ChangeGiven)) : Type 0 where
   pub well : formed (played qs r) ≡ true
   pub limit-is : objectLimit (played qs r) ≡ n
-  pub depth-is : stepLimit (played qs r) ≡ s
+  pub step-limit-is : stepLimit (played qs r) ≡ s
   pub settings-are : settings (played qs r) ≡ e
   pub data-replayed : replay (rules n e) s (remains (rules n e) s qs .done) ≡ some (shown (played qs r) .own)
   pub lists-afresh : afresh (rules n e) s (remains (rules n e) s qs .done) ≡ some (shown (played qs r) .lists)
@@ -248,29 +248,29 @@ pub record Reached (n s : ℕ) (e r : List ℕ) (qs : List (Call ChangeGiven)) :
   pub undo-done : 0 < remains (rules n e) s qs .left → undoTo (played qs r) .answer ≡ Done 0 false 0
   pub read-back : (i : ℕ) (out : List ℕ) → i < objects (played qs r) → ReadBack (played qs r) out i
 
-module _ (n s rule : ℕ) (m : Mapping) (default : MaybeList) (r : List ℕ) where
-  reached : startOk n s rule (length r) ≡ true → reads default ≡ true → shortIf default ≡ true → (qs : List (Call ChangeGiven))
-      → Reached n s (settingsFor rule m default) (front (emptyRoom n s rule m default) r) qs
+module _ (t : Settings) (r : List ℕ) where
+  reached : startOk (t .object-limit) (t .step-limit) (t .rule) (length r) ≡ true → reads (t .default) ≡ true → shortIf (t .default) ≡ true → (qs : List (Call ChangeGiven))
+      → Reached (t .object-limit) (t .step-limit) (settingsBytes t) (front (emptyRoom t) r) qs
   unfolding first callTo
   reached ok good few qs =
-      let g₀ : Good n s (settingsFor rule m default) (front (emptyRoom n s rule m default) r) (start (rules n (settingsFor rule m default)) s) = record {
-        well = first-formed n s rule m default r ok good few;
-        limits-are = first-limit n s rule m default r ok good few;
-        depth-is = first-depth n s rule m default r ok good few;
-        settings-are = first-settings n s rule m default r ok good few;
-        shows = first-shown n s rule m default r ok good few;
+      let g₀ : Good (t .object-limit) (t .step-limit) (settingsBytes t) (front (emptyRoom t) r) (start (rules (t .object-limit) (settingsBytes t)) (t .step-limit)) = record {
+        well = first-formed t r ok good few;
+        limits-are = first-limit t r ok good few;
+        step-limit-is = first-step-limit t r ok good few;
+        settings-are = first-settings t r ok good few;
+        shows = first-shown t r ok good few;
       } in
-      let g = all-good n s (settingsFor rule m default) (front (emptyRoom n s rule m default) r) g₀ qs in
-      let H = history (rules n (settingsFor rule m default)) (lawful n (settingsFor rule m default)) s qs in
-      let left : keptSteps (played qs (front (emptyRoom n s rule m default) r)) ≡ remains (rules n (settingsFor rule m default)) s qs .left =
-      sym (shown-kept (played qs (front (emptyRoom n s rule m default) r))) ∙ ap (λ (t : Tree). length (t .kept)) (g .shows) ∙ H .steps-left in
-      let accepted-as : (q : Call ChangeGiven) → accepted (callTo q (played qs (front (emptyRoom n s rule m default) r)) .answer)
-      ≡ accepts (rules n (settingsFor rule m default)) s (remains (rules n (settingsFor rule m default)) s qs) q =
-      λ q. call-good n s (settingsFor rule m default) _ _ q g .1 ∙ H .told q in
+      let g = all-good (t .object-limit) (t .step-limit) (settingsBytes t) (front (emptyRoom t) r) g₀ qs in
+      let H = history (rules (t .object-limit) (settingsBytes t)) (lawful (t .object-limit) (settingsBytes t)) (t .step-limit) qs in
+      let left : keptSteps (played qs (front (emptyRoom t) r)) ≡ remains (rules (t .object-limit) (settingsBytes t)) (t .step-limit) qs .left =
+      sym (shown-kept (played qs (front (emptyRoom t) r))) ∙ ap (λ (x : Tree). length (x .kept)) (g .shows) ∙ H .steps-left in
+      let accepted-as : (q : Call ChangeGiven) → accepted (callTo q (played qs (front (emptyRoom t) r)) .answer)
+      ≡ accepts (rules (t .object-limit) (settingsBytes t)) (t .step-limit) (remains (rules (t .object-limit) (settingsBytes t)) (t .step-limit) qs) q =
+      λ q. call-good (t .object-limit) (t .step-limit) (settingsBytes t) _ _ q g .1 ∙ H .told q in
       record {
         well = g .well;
         limit-is = g .limits-are;
-        depth-is = g .depth-is;
+        step-limit-is = g .step-limit-is;
         settings-are = g .settings-are;
         data-replayed = rw (g .shows) (H .data-replayed);
         lists-afresh = rw (g .shows) (H .lists-afresh);
@@ -278,7 +278,7 @@ module _ (n s rule : ℕ) (m : Mapping) (default : MaybeList) (r : List ℕ) whe
         answered = accepted-as;
         refused-stays = λ q. call-ends _ (g .well) q .stays;
         undo-refused = λ z. undo-11 _ (g .well) (left ∙ z);
-        undo-done = λ z. undo-0 _ (g .well) (omega (arith, left)) (accepted-as undo ∙ past-undo n s (settingsFor rule m default) qs z);
+        undo-done = λ z. undo-0 _ (g .well) (omega (arith, left)) (accepted-as undo ∙ past-undo (t .object-limit) (t .step-limit) (settingsBytes t) qs z);
         read-back = λ i out k. read-shown _ out i (g .well) k;
       }
 
@@ -289,37 +289,37 @@ module _ (n s rule : ℕ) (m : Mapping) (default : MaybeList) (r : List ℕ) whe
 
   -- what an accepted start is given, and what it leaves
   pub record Begun : Type 0 where
-    pub in-range : startOk n s rule (length r) ≡ true
-    pub reads-default : reads default ≡ true
-    pub short-default : shortIf default ≡ true
-    pub bytes-are : startTo n s rule m default r .bytes ≡ front (emptyRoom n s rule m default) r
-    pub size-is : length (startTo n s rule m default r .bytes) ≡ length r
+    pub in-range : startOk (t .object-limit) (t .step-limit) (t .rule) (length r) ≡ true
+    pub reads-default : reads (t .default) ≡ true
+    pub short-default : shortIf (t .default) ≡ true
+    pub bytes-are : startTo t r .bytes ≡ front (emptyRoom t) r
+    pub size-is : length (startTo t r .bytes) ≡ length r
 
   abbrev pub empty-tree : Outcome
-  empty-tree = record { answer = Done 0 false 0; bytes = front (emptyRoom n s rule m default) r }
+  empty-tree = record { answer = Done 0 false 0; bytes = front (emptyRoom t) r }
 
-  pub start-passes : Passes r (startTo n s rule m default r) empty-tree (startOk n s rule (length r) && (reads default && shortIf default))
+  pub start-passes : Passes r (startTo t r) empty-tree (startOk (t .object-limit) (t .step-limit) (t .rule) (length r) && (reads (t .default) && shortIf (t .default)))
   unfolding startTo
   start-passes =
-      then r _ _ empty-tree (startOk n s rule (length r)) _ (need-first (startOk n s rule (length r)) 12 r _)
-      (then r _ _ empty-tree (reads default) (shortIf default) (reads-first default 3 r _) (need-first (shortIf default) 8 r empty-tree))
+      then r _ _ empty-tree (startOk (t .object-limit) (t .step-limit) (t .rule) (length r)) _ (need-first (startOk (t .object-limit) (t .step-limit) (t .rule) (length r)) 12 r _)
+      (then r _ _ empty-tree (reads (t .default)) (shortIf (t .default)) (reads-first (t .default) 3 r _) (need-first (shortIf (t .default)) 8 r empty-tree))
 
-  pub begun : accepted (startTo n s rule m default r .answer) ≡ true → Begun
+  pub begun : accepted (startTo t r .answer) ≡ true → Begun
   unfolding first
   begun h =
-      let p = started (startTo n s rule m default r) empty-tree _ start-passes h in
-      let a = both-true (startOk n s rule (length r)) (reads default && shortIf default) (p .0) in
-      let b = both-true (reads default) (shortIf default) (a .1) in
+      let p = started (startTo t r) empty-tree _ start-passes h in
+      let a = both-true (startOk (t .object-limit) (t .step-limit) (t .rule) (length r)) (reads (t .default) && shortIf (t .default)) (p .0) in
+      let b = both-true (reads (t .default)) (shortIf (t .default)) (a .1) in
       record {
         in-range = a .0;
         reads-default = b .0;
         short-default = b .1;
         bytes-are = ap (λ (o : Outcome). o .bytes) (p .1);
-        size-is = ap (λ (o : Outcome). length (o .bytes)) (p .1) ∙ first-length n s rule m default r (a .0) (b .0) (b .1);
+        size-is = ap (λ (o : Outcome). length (o .bytes)) (p .1) ∙ first-length t r (a .0) (b .0) (b .1);
       }
 
   -- a start that is refused leaves the room
-  pub start-stays : accepted (startTo n s rule m default r .answer) ≡ false → startTo n s rule m default r .bytes ≡ r
+  pub start-stays : accepted (startTo t r .answer) ≡ false → startTo t r .bytes ≡ r
   start-stays h = by _ _ start-passes h
     where
       by : (o : Outcome) (b : Bool) → Passes r o empty-tree b → accepted (o .answer) ≡ false → o .bytes ≡ r
@@ -327,8 +327,8 @@ module _ (n s rule : ℕ) (m : Mapping) (default : MaybeList) (r : List ℕ) whe
       by o false (stop x) k = ap (λ (y : Outcome). y .bytes) (x .is)
 
   -- whatever tree a start gives, and whatever changes and undos follow
-  pub reaches : accepted (startTo n s rule m default r .answer) ≡ true → (qs : List (Call ChangeGiven))
-      → Reached n s (settingsFor rule m default) (startTo n s rule m default r .bytes) qs
+  pub reaches : accepted (startTo t r .answer) ≡ true → (qs : List (Call ChangeGiven))
+      → Reached (t .object-limit) (t .step-limit) (settingsBytes t) (startTo t r .bytes) qs
   reaches h qs =
       let b = begun h in
-      subst (λ (x : List ℕ). Reached n s (settingsFor rule m default) x qs) (sym (b .bytes-are)) (reached (b .in-range) (b .reads-default) (b .short-default) qs)
+      subst (λ (x : List ℕ). Reached (t .object-limit) (t .step-limit) (settingsBytes t) x qs) (sym (b .bytes-are)) (reached (b .in-range) (b .reads-default) (b .short-default) qs)

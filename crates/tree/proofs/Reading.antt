@@ -15,12 +15,12 @@ use Rattle.list.specs.Answer.{Values, done, refused}
 use Rattle.inherit.specs.Asked.{MaybeList}
 use Rattle.tree.specs.declared.Answer.{Answer}
 use Rattle.tree.specs.declared.Answer.the-variants.{Done}
-use Rattle.tree.specs.Held.{held, blockOk, parentByteIn, kindByte, markByte, typeOf, ownerOf, groupOf, ownList}
+use Rattle.tree.specs.Held.{held, blockOk, parentByteIn, parentIn, kindByte, markByte, typeOf, ownerOf, groupOf, ownList}
 use Rattle.tree.specs.Room.{objects, keptSteps, ownData, slot}
 use Rattle.tree.specs.Formed.{formed}
 use Rattle.tree.specs.Calls.{Outcome, refuse, toldAs, onObject, answerValues, listBytes, copied, dataOf, listTo, ownTo, dataTo, countsTo}
 use Rattle.tree.specs.Model as Model
-use Rattle.tree.specs.Shown.{settingsIn, parentIn, objectIn, objectsIn, readWith}
+use Rattle.tree.specs.Shown.{settingsIn, objectIn, objectsIn, readWith}
 use Rattle.tree.proofs.Blocks.{type-part, block-sound}
 use Rattle.tree.proofs.Answered.{need-yes}
 use Rattle.tree.proofs.Keeps.{Formed, facts-formed}

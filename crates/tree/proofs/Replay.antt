@@ -12,11 +12,11 @@ use Rattle.inherit.specs.Asked.{MaybeList}
 use Rattle.inherit.specs.Compute.{ordinary}
 use Rattle.tree.specs.Model.{shortIf}
 use Rattle.tree.specs.General.{bind, tab}
-use Rattle.tree.specs.Held.{New, isDone, blockFor, parentByteIn}
+use Rattle.tree.specs.Held.{isDone, parentIn, blockFor, parentByteIn}
 use Rattle.tree.specs.Room.{objects, keptSteps, objectLimit, ownData, slot, step, stepTag, stepObject, stepData}
 use Rattle.tree.specs.Formed.{placedIn}
 use Rattle.tree.specs.Work.{computed}
-use Rattle.tree.specs.Calls.{Edit, list, mark, owners, editAt, editBytes, nobody, ChangeGiven, add, alter}
+use Rattle.tree.specs.Calls.{Edit, list, mark, owners, editAt, editBytes, New, nobody, objectFor, ChangeGiven, add, alter}
 use Rattle.tree.specs.Held.{held}
 use Rattle.tree.proofs.History.{Rules, State}
 
@@ -39,16 +39,19 @@ abbrev pub when : {A : Type 0} → Bool → A → Option A
 when true a = some a
 when false a = none
 
--- own data of all objects after a change, with object limit n
-unfoldable pub change : ℕ → ChangeGiven → Blocks → Option Blocks
-change n (add new) d =
-    when (placedIn nobody (λ j. getD d j []) (length d) (new .parent)
-    && (ltb (length d) n
+-- what an add asks, with object limit N, where n objects stand whose own data f gives
+abbrev pub addable : ℕ → New → ℕ → (ℕ → List ℕ) → Bool
+addable N new n f =
+    placedIn f n (parentIn nobody (new .parent))
+    && (ltb n N
     && (reads (new .list)
     && (ordinary (new .owner)
     && (ordinary (new .group)
-    && shortIf (new .list))))))
-    (d ++ (blockFor new ∷ []))
+    && shortIf (new .list)))))
+
+-- own data of all objects after a change, with object limit n
+unfoldable pub change : ℕ → ChangeGiven → Blocks → Option Blocks
+change n (add new) d = when (addable n new (length d) (λ j. getD d j [])) (d ++ (blockFor (objectFor new) ∷ []))
 change n (alter i e) d = when (ltb i (length d) && fine e) (set d i (putAt (editAt e) (editBytes e) (getD d i [])))
 
 -- what a step puts back: an add takes the last object off, any other change puts the old own data back

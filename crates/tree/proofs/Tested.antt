@@ -40,7 +40,7 @@ head-says r e =
       long = leb-true _ _ (a .0);
       some-limit = leb-true _ _ (b .0);
       limit-64 = leb-true _ _ (c .0);
-      depth-64 = leb-true _ _ (d .0);
+      steps-64 = leb-true _ _ (d .0);
       within = leb-true _ _ (f .0);
       kept-within = leb-true _ _ (g .0);
       room-enough = leb-true _ _ (g .1);
@@ -53,7 +53,7 @@ head-said r h =
       le-leb _ _ (h .long),
       le-leb _ _ (h .some-limit),
       le-leb _ _ (h .limit-64),
-      le-leb _ _ (h .depth-64),
+      le-leb _ _ (h .steps-64),
       le-leb _ _ (h .within),
       le-leb _ _ (h .kept-within),
       le-leb _ _ (h .room-enough),

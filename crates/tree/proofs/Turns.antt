@@ -1,16 +1,18 @@
 -- What a change and an undo leave: own data stays good, each object in its place, and the kept steps still apply, each in its turn.
 -- Here f gives own data by object number, and g the steps, the latest at 0.
 use mathlib.Core.Path.{_≡_, refl, sym, ap, _∙_}
-use mathlib.Core.Bool.{Bool, true, false, cond, _&&_}
+use mathlib.Core.Bool.{Bool, true, false, cond}
 use mathlib.Core.List.{List}
 use mathlib.Core.Logic.{_⊎_, inl, inr}
+use mathlib.Core.Option.{Option, none, some}
 use Prim.Native.Nat.{ℕ, suc, _+_, _-_, _≤_, _<_, min}
 use native.Mathlib.Decide.{ℕ-discrete}
 use native.Mathlib.Omega.{arith}
 use lib.Dec.{eqb, ltb}
 use borrow.Author.Tests.{eq-eqb, ne-eqb, lt-ltb, eqb-true, ltb-true}
 use Rattle.list.proofs.Tests.{both-true}
-use Rattle.tree.specs.Held.{blockOk, parentByteIn, kindByte}
+use Rattle.tree.specs.Model.{parentByte}
+use Rattle.tree.specs.Held.{blockOk, parentByteIn, parentIn, parentOf, kindByte}
 use Rattle.tree.specs.Room.{stepTag, stepObject, stepData}
 use Rattle.tree.specs.Formed.{placedIn, standing, stepsOk}
 use Rattle.tree.proofs.Applied.{upd, upd-same, upd-other, ahead, Alike, alike-same, alike-upd, Adds, Again, step-facts, step-add, step-again}
@@ -18,41 +20,52 @@ use Rattle.tree.proofs.Applied.{standing-add, standing-again, steps-sam
 
 -- ---- a place under a parent
 
-abbrev pub Placed : ℕ → (ℕ → List ℕ) → ℕ → ℕ → Type 0
-Placed nobody f i p = ((i ≡ 0) × (p ≡ nobody)) ⊎ ((0 < i) × ((p < i) × (kindByte (f p) ≡ 1)))
+abbrev pub Placed : (ℕ → List ℕ) → ℕ → Option ℕ → Type 0
+Placed f i none = i ≡ 0
+Placed f i (some p) = (p < i) × (kindByte (f p) ≡ 1)
 
-module _ (k : ℕ) (f : ℕ → List ℕ) (i p : ℕ) where
-  pub placed-facts : placedIn k f i p ≡ true → Placed k f i p
+module _ (f : ℕ → List ℕ) (i : ℕ) where
+  pub placed-facts : (q : Option ℕ) → placedIn f i q ≡ true → Placed f i q
   unfolding placedIn
-  placed-facts h = by (eqb i 0) refl h
+  placed-facts none h = eqb-true i 0 h
+  placed-facts (some p) h =
+      let b = both-true (ltb p i) (eqb (kindByte (f p)) 1) h in
+      (ltb-true p i (b .0), eqb-true (kindByte (f p)) 1 (b .1))
+
+  pub placed-from : (q : Option ℕ) → Placed f i q → placedIn f i q ≡ true
+  unfolding placedIn
+  placed-from none e = eq-eqb i 0 e
+  placed-from (some p) x = rw (lt-ltb p i (x .0)) (eq-eqb (kindByte (f p)) 1 (x .1))
+
+  -- its number as own data has it, and back
+  pub placed-parent : (q : Option ℕ) → i ≤ 64 → Placed f i q → parentIn 255 (parentByte q) ≡ q
+  unfolding parentByte
+  placed-parent none few x = refl
+  placed-parent (some p) few x = rw (ne-eqb p 255 (λ e. omega (arith, x .0))) refl
+
+  -- or as a call has it, where `nobody` is no parent
+  pub placed-byte : (nobody p : ℕ) → 255 ≤ nobody → i ≤ 64 → placedIn f i (parentIn nobody p) ≡ true → parentByte (parentIn nobody p) ≡ min 255 p
+  unfolding parentByte
+  placed-byte nobody p far few h = by (eqb p nobody) refl (placed-facts (parentIn nobody p) h)
     where
-      by : (b : Bool) → eqb i 0 ≡ b → cond b (eqb p k) (ltb p i && eqb (kindByte (f p)) 1) ≡ true → Placed k f i p
-      by true e t = inl (eqb-true _ _ e, eqb-true _ _ t)
-      by false e t =
-          let b = both-true _ _ t in
-          let q : p < i = ltb-true _ _ (b .0) in
-          inr (omega arith, (q, eqb-true _ _ (b .1)))
+      by : (b : Bool) → eqb p nobody ≡ b → Placed f i (cond b none (some p)) → parentByte (cond b none (some p)) ≡ min 255 p
+      by true e x = let q = eqb-true p nobody e in omega arith
+      by false e x = omega (arith, x .0)
 
-  pub placed-from : Placed k f i p → placedIn k f i p ≡ true
-  unfolding placedIn
-  placed-from (inl (e, q)) = rw (eq-eqb i 0 e) (eq-eqb p k q)
-  placed-from (inr (h, (q, e))) = rw (ne-eqb i 0 (λ z. omega arith), lt-ltb p i q) (eq-eqb (kindByte (f p)) 1 e)
-
-pub placed-same : (k : ℕ) (f f′ : ℕ → List ℕ) (i p : ℕ) → ((j : ℕ) → j < i → kindByte (f j) ≡ kindByte (f′ j)) → placedIn k f i p ≡ true → placedIn k f′ i p ≡ true
-placed-same k f f′ i p h e = by (placed-facts k f i p e)
-  where
-    by : Placed k f i p → placedIn k f′ i p ≡ true
-    by (inl q) = placed-from k f′ i p (inl q)
-    by (inr q) = placed-from k f′ i p (inr (q .0, (q .1 .0, sym (h p (q .1 .0)) ∙ q .1 .1)))
+pub placed-same : (f f′ : ℕ → List ℕ) (i : ℕ) (q : Option ℕ) → ((j : ℕ) → j < i → kindByte (f j) ≡ kindByte (f′ j)) → placedIn f i q ≡ true → placedIn f′ i q ≡ true
+placed-same f f′ i none h e = placed-from f′ i none (placed-facts f i none e)
+placed-same f f′ i (some p) h e =
+    let x = placed-facts f i (some p) e in
+    placed-from f′ i (some p) (x .0, sym (h p (x .0)) ∙ x .1)
 
 -- ---- own data of n objects, each good by itself and in its place
 
 abbrev pub Owned : ℕ → (ℕ → List ℕ) → Type 0
-Owned n f = (i : ℕ) → i < n → (blockOk (f i) ≡ true) × (placedIn 255 f i (parentByteIn (f i)) ≡ true)
+Owned n f = (i : ℕ) → i < n → (blockOk (f i) ≡ true) × (placedIn f i (parentOf (f i)) ≡ true)
 
 -- an edit, or own data put back
 pub owned-put : (n i : ℕ) (x : List ℕ) (f : ℕ → List ℕ) → Owned n f → i < n → blockOk x ≡ true → Alike x (f i) → Owned n (upd i x f)
-owned-put n i x f o h b a j k = (block, placed-same 255 f (upd i x f) j _ (λ l m. alike-upd i x f a l .kind) place)
+owned-put n i x f o h b a j k = (block, placed-same f (upd i x f) j _ (λ l m. alike-upd i x f a l .kind) place)
   where
     block : blockOk (upd i x f j) ≡ true
     block = elim (ℕ-discrete j i) [
@@ -60,39 +73,36 @@ owned-put n i x f o h b a j k = (block, placed-same 255 f (upd i x f) j _ (λ l 
       | no e ↦ rw (upd-other i x f j e) (o j k .0)
     ]
 
-    place : placedIn 255 f j (parentByteIn (upd i x f j)) ≡ true
+    place : placedIn f j (parentOf (upd i x f j)) ≡ true
     place = rw (← alike-upd i x f a j .parent) (o j k .1)
 
 -- objects taken off
 pub owned-off : (n m : ℕ) (f f′ : ℕ → List ℕ) → Owned n f → m ≤ n → ((j : ℕ) → j < m → f j ≡ f′ j) → Owned m f′
 owned-off n m f f′ o h e i k =
     let a = o i (omega arith) in
-    rw (← e i k) (a .0, placed-same 255 f f′ i _ (λ j q. ap kindByte (e j (omega arith))) (a .1))
+    rw (← e i k) (a .0, placed-same f f′ i _ (λ j q. ap kindByte (e j (omega arith))) (a .1))
 
 -- one more
-pub owned-add : (n p : ℕ) (x : List ℕ) (f : ℕ → List ℕ) → Owned n f → n ≤ 64 → blockOk x ≡ true → placedIn 0xFFFFFFFF f n p ≡ true → parentByteIn x ≡ min 255 p
+pub owned-add : (n : ℕ) (q : Option ℕ) (x : List ℕ) (f : ℕ → List ℕ) → Owned n f → n ≤ 64 → blockOk x ≡ true → placedIn f n q ≡ true → parentByteIn x ≡ parentByte q
     → Owned (n + 1) (upd n x f)
-owned-add n p x f o h b t e i k = elim (ℕ-discrete i n) [
-  | yes q ↦ rw (q, upd-same n x f) (b, rw e (last (placed-facts 0xFFFFFFFF f n p t)))
-  | no q ↦ owned-off n n f (upd n x f) o (omega arith) same i (omega arith)
+owned-add n q x f o h b t e i k = elim (ℕ-discrete i n) [
+  | yes m ↦ rw (m, upd-same n x f) (b, rw (e, placed-parent f n q h (placed-facts f n q t)) last)
+  | no m ↦ owned-off n n f (upd n x f) o (omega arith) same i (omega arith)
 ]
   where
     same : (j : ℕ) → j < n → f j ≡ upd n x f j
-    same j l = sym (upd-other n x f j (λ q. omega arith))
+    same j l = sym (upd-other n x f j (λ m. omega arith))
 
-    last : Placed 0xFFFFFFFF f n p → placedIn 255 (upd n x f) n (min 255 p) ≡ true
-    last (inl (z, q)) = placed-from 255 (upd n x f) n (min 255 p) (inl (z, rw q refl))
-    last (inr (z, (q, r))) =
-        let w : min 255 p ≡ p = omega arith in
-        rw w (placed-from 255 (upd n x f) n p (inr (z, (q, rw (upd-other n x f p (λ v. omega arith)) r))))
+    last : placedIn (upd n x f) n q ≡ true
+    last = placed-same f (upd n x f) n q (λ j l. ap kindByte (same j l)) t
 
 -- each has no parent or an earlier one
 pub owned-ordered : (n : ℕ) (f : ℕ → List ℕ) → Owned n f → (i : ℕ) → i < n → (parentByteIn (f i) ≡ 255) ⊎ (parentByteIn (f i) < i)
-owned-ordered n f o i h = by (placed-facts 255 f i (parentByteIn (f i)) (o i h .1))
+owned-ordered n f o i h = by (eqb (parentByteIn (f i)) 255) refl (placed-facts f i (parentOf (f i)) (o i h .1))
   where
-    by : Placed 255 f i (parentByteIn (f i)) → (parentByteIn (f i) ≡ 255) ⊎ (parentByteIn (f i) < i)
-    by (inl q) = inl (q .1)
-    by (inr q) = inr (q .1 .0)
+    by : (b : Bool) → eqb (parentByteIn (f i)) 255 ≡ b → Placed f i (cond b none (some (parentByteIn (f i)))) → (parentByteIn (f i) ≡ 255) ⊎ (parentByteIn (f i) < i)
+    by true e x = inl (eqb-true (parentByteIn (f i)) 255 e)
+    by false e x = inr (x .0)
 
 -- ---- the kept steps after a change, and after an undo
 

@@ -3,7 +3,7 @@
 use mathlib.Core.Path.{_≡_, refl}
 use mathlib.Core.Bool.{true, false}
 use mathlib.Core.List.{List, [], _∷_, flatten}
-use mathlib.Core.Option.{some, none}
+use mathlib.Core.Option.{Option, some, none}
 use Prim.Native.Nat.{ℕ, _+_, _*_, _≤_}
 use native.Mathlib.Omega.{arith}
 use lib.ListN.{replicate}
@@ -18,9 +18,9 @@ use Rattle.inherit.specs.Last.{inPlace, mapped, resolved, lastOf, lastStep}
 use Rattle.inherit.specs.Branch.{inheritedBit, withCreator, fromDefault, branch, resultOf}
 use Rattle.inherit.specs.Compute.{anyObject, withRoom, onReading, readable, ruleOk, computeOf, bytesFor, askedBy}
 use Rattle.inherit.proofs.Worked.{mapping, system, parentWith, inherited, listed}
-use Rattle.tree.specs.Model.{limitsOk}
+use Rattle.tree.specs.Model.{Object, parentByte, limitsOk}
 use Rattle.tree.specs.General.{bind}
-use Rattle.tree.specs.Held.{New, bytesIn, idIn, idFor, slotFor, blockFor}
+use Rattle.tree.specs.Held.{bytesIn, idIn, idFor, slotFor, blockFor}
 use Rattle.tree.specs.Room.{roomFor, roomOf, settingsFor}
 use Rattle.tree.specs.Formed.{formed, countsOk}
 use Rattle.tree.specs.Work.{settingsAsked, computed}
@@ -54,7 +54,7 @@ unfolding anyObject withRoom onReading readable ruleOk computeOf bytesFor
 compute-open = tt
 
 unfoldable pub tree-open : Unit {0}
-unfolding bytesIn idIn idFor slotFor blockFor settingsFor computed bind fromRoot gather work
+unfolding bytesIn idIn idFor slotFor parentByte blockFor settingsFor computed bind fromRoot gather work
 tree-open = tt
 
 -- ---- a room's length
@@ -86,7 +86,7 @@ asked-again a = rw (lent-back (a .parent), lent-back (a .creator), lent-back (a 
 
 -- ---- the tree of RULES 6.7's script
 
-abbrev container : ℕ → MaybeList → New
+abbrev container : Option ℕ → MaybeList → Object
 container parent list =
     record { parent = parent; container = true; mark = false; type = replicate 16 0; owner = system; group = system; list = list }
 
@@ -97,6 +97,6 @@ script = settingsFor 2 mapping none
 abbrev pub lists : List MaybeList
 lists = some (listed 0x1C 1 (inherited 0x03 ∷ [])) ∷ some (listed 0x30 2 (inherited 0x10 ∷ inherited 0x1B ∷ [])) ∷ []
 
-pub script-tree : work script (blockFor (container 0xFFFFFFFF (some (parentWith 0x03))) ∷ blockFor (container 0 none) ∷ []) ≡ some lists
+pub script-tree : work script (blockFor (container none (some (parentWith 0x03))) ∷ blockFor (container (some 0) none) ∷ []) ≡ some lists
 unfolding bytes-open entries-open lists-open copies-open last-open compute-open tree-open
 script-tree = refl

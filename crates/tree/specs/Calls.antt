@@ -4,22 +4,21 @@ use mathlib.Core.Path.{_≡_}
 use mathlib.Core.List.{List, [], _∷_, _++_}
 use mathlib.Core.Bool.{Bool, true, false, not, cond, _&&_}
 use mathlib.Core.Option.{Option, none, some}
-use lib.ListN.{length, set}
+use lib.ListN.{length, take, drop, set}
 use lib.Dec.{eqb, leb, ltb}
 use Rattle.list.specs.Order.{need}
-use Rattle.list.specs.Bytes.{part, putAt, front}
+use Rattle.list.specs.Bytes.{part, putAt, front, guidAt}
 use Rattle.list.specs.Entry.{access}
 use Rattle.list.specs.List.{checkOf, countOf}
 use Rattle.list.specs.Answer.{Values, done, refused}
 use Rattle.list.specs.declared.lists.Reading.{Reading}
 use Rattle.list.specs.declared.lists.Reading.the-variants.{Done as Read, Refused as Unread}
-use Rattle.inherit.specs.declared.Mapping.{Mapping}
 use Rattle.inherit.specs.Asked.{MaybeList}
 use Rattle.inherit.specs.Compute.{ordinary, ruleOk}
 use Rattle.tree.specs.declared.Answer.{Answer}
 use Rattle.tree.specs.declared.Answer.the-variants.{Done, Refused}
-use Rattle.tree.specs.Model.{shortIf, limitsOk}
-use Rattle.tree.specs.Held.{New, held, slotFor, idFor, blockFor, yes, ownerOf, groupOf, ownList}
+use Rattle.tree.specs.Model.{Settings, Object, shortIf, limitsOk}
+use Rattle.tree.specs.Held.{held, slotFor, idFor, parentIn, blockFor, yes, ownerOf, groupOf, ownList}
 use Rattle.tree.specs.Room.{objectLimit, stepLimit, objects, keptSteps, ownAt, stepsAt, roomFor, ownData, slot, step, stepObject, stepData, area, emptyRoom}
 use Rattle.tree.specs.Formed.{placedIn, standing, formed}
 use Rattle.tree.specs.Work.{reworked}
@@ -71,19 +70,22 @@ toldAs (some s) = Done (length s) true (countOf s)
 unfoldable pub onObject : List ℕ → ℕ → List ℕ → Outcome → Outcome
 onObject r i x rest = need (formed r) (refuse 13 0 0 x) (need (ltb i (objects r)) (refuse 9 0 0 x) rest)
 
--- ---- the steps
+-- ---- the steps, the latest first
 
--- place for a step in front, the oldest forgotten where there is no more room
-unfoldable pub shifted : List ℕ → List ℕ
-shifted w = set (putAt (stepsAt (objectLimit w) + 1186) (part (stepsAt (objectLimit w)) ((stepLimit w - 1) * 1186) w) w) 3 (min (stepLimit w) (keptSteps w + 1))
+-- the bytes that they lie in, as many steps as the limit allows; and the room with other bytes on the front of these, and k steps kept
+abbrev pub stepsIn : List ℕ → List ℕ
+stepsIn w = part (stepsAt (objectLimit w)) (stepLimit w * 1186) w
 
--- a step kept; none is kept where the step limit is 0
-unfoldable pub pushed : List ℕ → List ℕ → List ℕ
-pushed u w = cond (ltb 0 (stepLimit w)) (putAt (stepsAt (objectLimit w)) u (shifted w)) w
+abbrev pub withSteps : List ℕ → ℕ → List ℕ → List ℕ
+withSteps t k w = set (putAt (stepsAt (objectLimit w)) t w) 3 k
+
+-- a step u kept in front of the others: past the limit the oldest is forgotten
+unfoldable pub stepKept : List ℕ → List ℕ → List ℕ
+stepKept u w = withSteps (take (stepLimit w * 1186) (u ++ stepsIn w)) (min (stepLimit w) (keptSteps w + 1)) w
 
 -- the latest step taken off
-unfoldable pub popped : List ℕ → List ℕ
-popped w = set (putAt (stepsAt (objectLimit w)) (part (stepsAt (objectLimit w) + 1186) ((stepLimit w - 1) * 1186) w) w) 3 (keptSteps w - 1)
+unfoldable pub stepGone : List ℕ → List ℕ
+stepGone w = withSteps (drop 1186 (stepsIn w)) (keptSteps w - 1) w
 
 -- ---- changes and undo, on the room's area: none where a list would pass 1,024 bytes
 
@@ -91,9 +93,18 @@ popped w = set (putAt (stepsAt (objectLimit w)) (part (stepsAt (objectLimit w) +
 unfoldable pub reworkedWith : ℕ → List ℕ → ℕ → List ℕ → Option (List ℕ)
 reworkedWith at b n w = reworked n (set (putAt at b w) 2 n)
 
--- a change of object i: a step is kept with its own data as it stood, b is put at place `at` of it
-unfoldable pub changed : ℕ → ℕ → ℕ → List ℕ → ℕ → List ℕ → Option (List ℕ)
-changed tag i at b n w = reworkedWith (ownAt i + at) b n (pushed (tag ∷ i ∷ ownData i w) w)
+-- what a change puts: the tag of its step; of which object; bytes, and their place in its own data; how many objects stand then
+pub record Put : Type 0 where
+  pub tag : ℕ
+  pub object : ℕ
+  pub place : ℕ
+  pub bytes : List ℕ
+  pub standing : ℕ
+
+-- a step is kept with the object's own data as it stood, and the bytes are put there
+unfoldable pub changed : Put → List ℕ → Option (List ℕ)
+changed p w =
+    reworkedWith (ownAt (p .object) + p .place) (p .bytes) (p .standing) (stepKept (p .tag ∷ p .object ∷ ownData (p .object) w) w)
 
 -- undo: what the latest step holds is put back; the object of an add is gone
 abbrev pub latest : List ℕ → List ℕ
@@ -103,7 +114,7 @@ abbrev pub standingAfter : List ℕ → ℕ
 standingAfter w = standing (objects w) (latest w)
 
 unfoldable pub stepTakenBack : List ℕ → Option (List ℕ)
-stepTakenBack w = reworkedWith (ownAt (stepObject (latest w))) (stepData (latest w)) (standingAfter w) (popped w)
+stepTakenBack w = reworkedWith (ownAt (stepObject (latest w))) (stepData (latest w)) (standingAfter w) (stepGone w)
 
 -- the end of a change of object i: its computed list; of an undo: zeros
 unfoldable pub changeEnds : ℕ → List ℕ → Option (List ℕ) → Outcome
@@ -115,41 +126,65 @@ undoEnds r none = refuse 8 0 0 r
 undoEnds r (some w) = record { answer = Done 0 false 0; bytes = front w r }
 
 -- both, on a room whose tests are passed
-abbrev pub changeTo : ℕ → ℕ → ℕ → List ℕ → ℕ → List ℕ → Outcome
-changeTo tag i at b n r = changeEnds i r (changed tag i at b n (area r))
+abbrev pub changeTo : Put → List ℕ → Outcome
+changeTo p r = changeEnds (p .object) r (changed p (area r))
 
 abbrev pub takeBackTo : List ℕ → Outcome
 takeBackTo r = undoEnds r (stepTakenBack (area r))
 
 -- ---- the calls
 
--- "no parent" in a call
-abbrev pub nobody : ℕ
-nobody = 0xFFFFFFFF
-
 -- limits and rule in range, and room enough
 unfoldable pub startOk : ℕ → ℕ → ℕ → ℕ → Bool
 startOk n s rule room = limitsOk n s && (ruleOk rule && leb (roomFor n s) room)
 
 -- start: 12, then the default list by 1 to 5, then 8
-unfoldable pub startTo : ℕ → ℕ → ℕ → Mapping → MaybeList → List ℕ → Outcome
-startTo n s rule m default r =
-    need (startOk n s rule (length r)) (refuse 12 0 0 r)
-    (readableTo default 3 r
-    (need (shortIf default) (refuse 8 0 0 r)
-    (record { answer = Done 0 false 0; bytes = front (emptyRoom n s rule m default) r })))
+unfoldable pub startTo : Settings → List ℕ → Outcome
+startTo t r =
+    need (startOk (t .object-limit) (t .step-limit) (t .rule) (length r)) (refuse 12 0 0 r)
+    (readableTo (t .default) 3 r
+    (need (shortIf (t .default)) (refuse 8 0 0 r)
+    (record { answer = Done 0 false 0; bytes = front (emptyRoom t) r })))
+
+-- what an add is given, and the object that it means: FFFFFFFF is no parent, and a type has sixteen bytes
+pub record New : Type 0 where
+  pub parent : ℕ
+  pub container : Bool
+  pub mark : Bool
+  pub type : List ℕ
+  pub owner : List ℕ
+  pub group : List ℕ
+  pub list : MaybeList
+
+abbrev pub nobody : ℕ
+nobody = 0xFFFFFFFF
+
+abbrev pub objectFor : New → Object
+objectFor n =
+    record {
+      parent = parentIn nobody (n .parent);
+      container = n .container;
+      mark = n .mark;
+      type = guidAt (n .type) 0;
+      owner = n .owner;
+      group = n .group;
+      list = n .list;
+    }
 
 -- add: 13, 9, 10, 1 to 5, 6, 8
-unfoldable pub addTo : New → List ℕ → Outcome
-addTo new r =
+abbrev pub addPut : Object → ℕ → Put
+addPut o n = record { tag = 1; object = n; place = 0; bytes = blockFor o; standing = n + 1 }
+
+unfoldable pub addTo : Object → List ℕ → Outcome
+addTo o r =
     need (formed r) (refuse 13 0 0 r)
-    (need (placedIn nobody (λ j. ownData j r) (objects r) (new .parent)) (refuse 9 0 0 r)
+    (need (placedIn (λ j. ownData j r) (objects r) (o .parent)) (refuse 9 0 0 r)
     (need (ltb (objects r) (objectLimit r)) (refuse 10 0 0 r)
-    (readableTo (new .list) 2 r
-    (need (ordinary (new .owner)) (refuse 6 0 0 r)
-    (need (ordinary (new .group)) (refuse 6 0 0 r)
-    (need (shortIf (new .list)) (refuse 8 0 0 r)
-    (changeTo 1 (objects r) 0 (blockFor new) (objects r + 1) r)))))))
+    (readableTo (o .list) 2 r
+    (need (ordinary (o .owner)) (refuse 6 0 0 r)
+    (need (ordinary (o .group)) (refuse 6 0 0 r)
+    (need (shortIf (o .list)) (refuse 8 0 0 r)
+    (changeTo (addPut o (objects r)) r)))))))
 
 -- what a change alters in an object's own data: its list, its mark, or its owner and group
 pub data Edit : Type 0 where
@@ -173,6 +208,9 @@ editBytes (list o) = slotFor o
 editBytes (mark m) = yes m ∷ []
 editBytes (owners o g) = idFor o ++ idFor g
 
+abbrev pub editPut : ℕ → Edit → ℕ → Put
+editPut i e n = record { tag = 2; object = i; place = editAt e; bytes = editBytes e; standing = n }
+
 -- the tests of what is given: 1 to 5, 6, 8
 unfoldable pub tested : Edit → List ℕ → Outcome → Outcome
 tested (list o) r rest = readableTo o 2 r (need (shortIf o) (refuse 8 0 0 r) rest)
@@ -181,7 +219,7 @@ tested (owners o g) r rest = need (ordinary o) (refuse 6 0 0 r) (need (ordinary 
 
 -- any other change: 13, 9, 1 to 5, 6, 8
 unfoldable pub alterTo : ℕ → Edit → List ℕ → Outcome
-alterTo i e r = onObject r i r (tested e r (changeTo 2 i (editAt e) (editBytes e) (objects r) r))
+alterTo i e r = onObject r i r (tested e r (changeTo (editPut i e (objects r)) r))
 
 -- undo: 13, 11, 8
 unfoldable pub undoTo : List ℕ → Outcome

@@ -2,11 +2,12 @@
 use Prim.Native.Nat.{ℕ, zero, suc, _+_, _-_, _≤_}
 use mathlib.Core.List.{List}
 use mathlib.Core.Bool.{Bool, true, cond, _&&_}
+use mathlib.Core.Option.{Option, none, some}
 use lib.ListN.{length}
 use lib.Dec.{eqb, leb, ltb}
 use Rattle.inherit.specs.Compute.{ruleOk}
 use Rattle.tree.specs.General.{every}
-use Rattle.tree.specs.Held.{slotOk, blockOk, alike, parentByteIn, kindByte}
+use Rattle.tree.specs.Held.{slotOk, blockOk, alike, parentOf, kindByte}
 use Rattle.tree.specs.Room.{objectLimit, stepLimit, objects, keptSteps, roomFor, settings, ruleOf, defaultSlot, ownData, slot, step, stepTag, stepObject, stepData}
 
 -- limits and counts in their ranges, and room enough
@@ -25,7 +26,7 @@ pub record Head (r : List ℕ) : Type 0 where
   pub long : 1048 ≤ length r
   pub some-limit : 1 ≤ objectLimit r
   pub limit-64 : objectLimit r ≤ 64
-  pub depth-64 : stepLimit r ≤ 64
+  pub steps-64 : stepLimit r ≤ 64
   pub within : objects r ≤ objectLimit r
   pub kept-within : keptSteps r ≤ stepLimit r
   pub room-enough : roomFor (objectLimit r) (stepLimit r) ≤ length r
@@ -34,13 +35,14 @@ pub record Head (r : List ℕ) : Type 0 where
 unfoldable pub settingsOk : List ℕ → Bool
 settingsOk e = ruleOk (ruleOf e) && slotOk (defaultSlot e)
 
--- p may be the parent of object i, where f gives the own data of those before it: none for the first, an earlier container for each later one
-unfoldable pub placedIn : ℕ → (ℕ → List ℕ) → ℕ → ℕ → Bool
-placedIn nobody f i p = cond (eqb i 0) (eqb p nobody) (ltb p i && eqb (kindByte (f p)) 1)
+-- object i may have this parent, where f gives the own data of those before it: none for the first, an earlier container for each later one
+unfoldable pub placedIn : (ℕ → List ℕ) → ℕ → Option ℕ → Bool
+placedIn f i none = eqb i 0
+placedIn f i (some p) = ltb p i && eqb (kindByte (f p)) 1
 
 -- object i: its own data, its place, its computed list
 unfoldable pub objectOk : List ℕ → ℕ → Bool
-objectOk r i = blockOk (ownData i r) && (placedIn 255 (λ j. ownData j r) i (parentByteIn (ownData i r)) && slotOk (slot i r))
+objectOk r i = blockOk (ownData i r) && (placedIn (λ j. ownData j r) i (parentOf (ownData i r)) && slotOk (slot i r))
 
 -- own data is put back: of an object that stands, good by itself, and alike
 unfoldable pub againOk : (ℕ → List ℕ) → ℕ → List ℕ → Bool

@@ -1,8 +1,8 @@
 -- What the parts of a room hold (docs/ROOM.md): a slot, an identity, own data of an object.
-use Prim.Native.Nat.{ℕ, _-_, min}
+use Prim.Native.Nat.{ℕ, _-_}
 use mathlib.Core.List.{List, [], _∷_, _++_}
 use mathlib.Core.Bool.{Bool, true, false, cond, _&&_, _||_}
-use mathlib.Core.Option.{none, some}
+use mathlib.Core.Option.{Option, none, some}
 use lib.ListN.{length, getD, drop, replicate}
 use lib.Dec.{eqb, leb}
 use Rattle.list.specs.Bytes.{le, spell, part, sameBytes, guidAt}
@@ -12,6 +12,7 @@ use Rattle.list.specs.declared.lists.Reading.{Reading}
 use Rattle.list.specs.declared.lists.Reading.the-variants.{Done, Refused}
 use Rattle.inherit.specs.Asked.{MaybeList, lent}
 use Rattle.inherit.specs.Compute.{ordinary}
+use Rattle.tree.specs.Model.{Object, parentByte}
 
 -- ---- a slot, 1,027 bytes: 1 present or 0 absent, 16-bit length, 1,024 bytes with the list
 
@@ -57,6 +58,13 @@ idOk f = leb (getD f 0 0) 68 && ordinary (idIn f)
 abbrev pub parentByteIn : List ℕ → ℕ
 parentByteIn b = getD b 0 0
 
+-- a parent's number, or the number that says that there is none
+abbrev pub parentIn : ℕ → ℕ → Option ℕ
+parentIn none-is p = cond (eqb p none-is) none (some p)
+
+abbrev pub parentOf : List ℕ → Option ℕ
+parentOf b = parentIn 255 (parentByteIn b)
+
 abbrev pub kindByte : List ℕ → ℕ
 kindByte b = getD b 1 0
 
@@ -91,22 +99,12 @@ blockOk b =
 unfoldable pub alike : List ℕ → List ℕ → Bool
 alike a b = eqb (parentByteIn a) (parentByteIn b) && (eqb (kindByte a) (kindByte b) && sameBytes (typeOf a) (typeOf b))
 
--- what a new object is given
-pub record New : Type 0 where
-  pub parent : ℕ
-  pub container : Bool
-  pub mark : Bool
-  pub type : List ℕ
-  pub owner : List ℕ
-  pub group : List ℕ
-  pub list : MaybeList
-
 -- a byte for yes or no
 abbrev pub yes : Bool → ℕ
 yes b = cond b 1 0
 
--- its own data: no parent is 255 there, and a type is sixteen bytes
-unfoldable pub blockFor : New → List ℕ
-blockFor n =
-    (min 255 (n .parent) ∷ yes (n .container) ∷ yes (n .mark) ∷ [])
-    ++ (guidAt (n .type) 0 ++ (idFor (n .owner) ++ (idFor (n .group) ++ slotFor (n .list))))
+-- own data of a new object
+unfoldable pub blockFor : Object → List ℕ
+blockFor o =
+    (parentByte (o .parent) ∷ yes (o .container) ∷ yes (o .mark) ∷ [])
+    ++ (o .type ++ (idFor (o .owner) ++ (idFor (o .group) ++ slotFor (o .list))))

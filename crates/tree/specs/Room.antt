@@ -7,7 +7,7 @@ use lib.Dec.{leb}
 use Rattle.list.specs.Bytes.{le, spell, part}
 use Rattle.inherit.specs.Asked.{MaybeList}
 use Rattle.inherit.specs.declared.Mapping.{Mapping}
-use Rattle.tree.specs.Model.{limitsOk}
+use Rattle.tree.specs.Model.{Settings, limitsOk}
 use Rattle.tree.specs.Held.{held, slotFor}
 
 -- object limit, step limit, objects that stand, kept steps
@@ -88,5 +88,7 @@ abbrev pub area : List ℕ → List ℕ
 area r = take (roomFor (objectLimit r) (stepLimit r)) r
 
 -- an empty tree
-unfoldable pub emptyRoom : ℕ → ℕ → ℕ → Mapping → MaybeList → List ℕ
-emptyRoom n s rule m default = (n ∷ s ∷ 0 ∷ 0 ∷ []) ++ (settingsFor rule m default ++ replicate (n * 2211 + s * 1186) 0)
+unfoldable pub emptyRoom : Settings → List ℕ
+emptyRoom t =
+    (t .object-limit ∷ t .step-limit ∷ 0 ∷ 0 ∷ [])
+    ++ (settingsFor (t .rule) (t .mapping) (t .default) ++ replicate (t .object-limit * 2211 + t .step-limit * 1186) 0)

@@ -2,31 +2,24 @@
 use Prim.Native.Nat.{ℕ, _-_, _%_}
 use mathlib.Core.Bool.{cond}
 use mathlib.Core.List.{List, [], _∷_}
-use mathlib.Core.Option.{Option, none, some}
 use lib.ListN.{length, take, set}
 use lib.Dec.{eqb, leb}
-use Rattle.list.specs.Bytes.{guidAt}
 use Rattle.list.specs.Answer.{Values}
-use Rattle.inherit.specs.declared.Mapping.{Mapping}
 use Rattle.inherit.specs.Asked.{MaybeList}
 use Rattle.tree.specs.General.{tab}
-use Rattle.tree.specs.Held.{New, held, parentByteIn, kindByte, markByte, typeOf, ownerOf, groupOf, ownList}
+use Rattle.tree.specs.Held.{held, parentOf, kindByte, markByte, typeOf, ownerOf, groupOf, ownList}
 use Rattle.tree.specs.Room.{objectLimit, stepLimit, objects, settings, ruleOf, mappingOf, defaultOf, ownData, slot, step, stepTag, stepObject, stepData, roomFor}
-use Rattle.tree.specs.Calls.{Edit, list, mark, owners, nobody, Outcome, answerValues, startTo, addTo, alterTo, undoTo, listTo, ownTo, dataTo, countsTo, ChangeGiven, add, alter}
+use Rattle.tree.specs.Calls.{Edit, list, mark, owners, Outcome, answerValues, objectFor, startTo, addTo, alterTo, undoTo, listTo, ownTo, dataTo, countsTo, ChangeGiven, add, alter}
 use Rattle.tree.specs.Model as Model
 use Rattle.tree.specs.Model.{Settings, Object, Part, computed-list, own-list, other-data}
 
 -- ---- a room
 
--- a parent's number, or the number that says that there is none
-abbrev pub parentIn : ℕ → ℕ → Option ℕ
-parentIn none-is p = cond (eqb p none-is) none (some p)
-
 -- an object's own data: FF for no parent; 1 for a container; 1 for a mark
 abbrev pub objectIn : List ℕ → Object
 objectIn b =
     record {
-      parent = parentIn 255 (parentByteIn b);
+      parent = parentOf b;
       container = eqb (kindByte b) 1;
       mark = eqb (markByte b) 1;
       type = typeOf b;
@@ -57,19 +50,6 @@ settingsIn r = settingsAt (objectLimit r) (stepLimit r) (settings r)
 
 -- ---- the calls as they are made
 
--- what an add is given: FFFFFFFF for no parent; a type is sixteen bytes
-abbrev pub objectFor : New → Object
-objectFor n =
-    record {
-      parent = parentIn nobody (n .parent);
-      container = n .container;
-      mark = n .mark;
-      type = guidAt (n .type) 0;
-      owner = n .owner;
-      group = n .group;
-      list = n .list;
-    }
-
 unfoldable pub alteration : ℕ → Edit → Model.Change
 alteration i (list o) = Model.setList i o
 alteration i (mark m) = Model.setMark i m
@@ -79,31 +59,23 @@ unfoldable pub changeMeant : ChangeGiven → Model.Change
 changeMeant (add new) = Model.add (objectFor new)
 changeMeant (alter i e) = alteration i e
 
--- what a start is given: limits, rule, mapping, a default list or none
-pub record Begin : Type 0 where
-  pub objects : ℕ
-  pub steps : ℕ
-  pub rule : ℕ
-  pub mapping : Mapping
-  pub default : MaybeList
-
--- masks are 32-bit numbers
+-- what a start is given, whose masks are 32-bit numbers
 abbrev pub word : ℕ → ℕ
 word m = m % 0x100000000
 
-abbrev pub settingsFrom : Begin → Settings
-settingsFrom b =
+abbrev pub settingsFrom : Settings → Settings
+settingsFrom t = let m = t .mapping in
     record {
-      object-limit = b .objects;
-      step-limit = b .steps;
-      rule = b .rule;
-      mapping = record { read = word (b .mapping .read); write = word (b .mapping .write); execute = word (b .mapping .execute); all = word (b .mapping .all) };
-      default = b .default;
+      object-limit = t .object-limit;
+      step-limit = t .step-limit;
+      rule = t .rule;
+      mapping = record { read = word (m .read); write = word (m .write); execute = word (m .execute); all = word (m .all) };
+      default = t .default;
     }
 
 -- the calls
 pub data Request : Type 0 where
-  start : Begin → Request
+  start : Settings → Request
   change : ChangeGiven → Request
   undo : Request
   read : Part → ℕ → List ℕ → Request
@@ -111,18 +83,15 @@ pub data Request : Type 0 where
 
 -- what a call asks of the model, in a room of so many bytes
 unfoldable pub meant : ℕ → Request → Model.Call
-meant long (start b) = Model.start (settingsFrom b) (leb (roomFor (b .objects) (b .steps)) long)
+meant long (start t) = Model.start (settingsFrom t) (leb (roomFor (t .object-limit) (t .step-limit)) long)
 meant long (change c) = Model.change (changeMeant c)
 meant long undo = Model.undo
 meant long (read x i out) = Model.read x i out
 meant long counts = Model.counts
 
--- the promise of each, on the room r: a start, a change, undo
-abbrev pub startWith : Begin → List ℕ → Outcome
-startWith b r = startTo (b .objects) (b .steps) (b .rule) (b .mapping) (b .default) r
-
+-- the promise of a change on the room r
 unfoldable pub changeWith : ChangeGiven → List ℕ → Outcome
-changeWith (add new) r = addTo new r
+changeWith (add new) r = addTo (objectFor new) r
 changeWith (alter i e) r = alterTo i e r
 
 -- and what reads a part of an object back, on lent bytes
@@ -133,7 +102,7 @@ readWith other-data i r out = dataTo i r out
 
 -- what each answers, and what it leaves of the room: a call that only reads leaves it as it was
 unfoldable pub callOn : Request → List ℕ → Outcome
-callOn (start b) r = startWith b r
+callOn (start t) r = startTo t r
 callOn (change c) r = changeWith c r
 callOn undo r = undoTo r
 callOn (read x i out) r = record { answer = readWith x i r out .answer; bytes = r }

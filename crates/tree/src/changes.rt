@@ -50,7 +50,7 @@ fn change_copy(
 ) -> bool
     requires { ⌜ Head (now r) × ((length (now w) ≡ roomFor (objectLimit (now r)) (stepLimit (now r))) × (length (now out) ≡ 1024)) ⌝ }
     requires { ⌜ (i < objectLimit (now r)) × ((n ≤ objectLimit (now r)) × (at + length (now b) ≤ 1184)) ⌝ }
-    ensures { λ ok. ⌜ (ok ≡ isSome (changed tag i at (now (b .entry)) n (area (now (r .entry))))) × ((ok ≡ true → changed tag i at (now (b .entry)) n (area (now (r .entry))) ≡ some (now (w .exit)))) ⌝ }
+    ensures { λ ok. ⌜ (ok ≡ isSome (changed (record { tag = tag; object = i; place = at; bytes = now (b .entry); standing = n }) (area (now (r .entry))))) × ((ok ≡ true → changed (record { tag = tag; object = i; place = at; bytes = now (b .entry); standing = n }) (area (now (r .entry))) ≡ some (now (w .exit)))) ⌝ }
 {
     push(r, w, tag, i);
     settle(w, out, OBJECTS_AT + i * OBJECT + at, b, n)
@@ -68,7 +68,7 @@ fn change_in(
 ) -> Answer
     requires { ⌜ Head (now r) × ((length (now w) ≡ roomFor (objectLimit (now r)) (stepLimit (now r))) × (length (now out) ≡ 1024)) ⌝ }
     requires { ⌜ (i < objectLimit (now r)) × ((n ≤ objectLimit (now r)) × (at + length (now b) ≤ 1184)) ⌝ }
-    ensures { λ a. ⌜ (a ≡ changeTo tag i at (now (b .entry)) n (now (r .entry)) .answer) × (now (r .exit) ≡ changeTo tag i at (now (b .entry)) n (now (r .entry)) .bytes) ⌝ }
+    ensures { λ a. ⌜ (a ≡ changeTo (record { tag = tag; object = i; place = at; bytes = now (b .entry); standing = n }) (now (r .entry)) .answer) × (now (r .exit) ≡ changeTo (record { tag = tag; object = i; place = at; bytes = now (b .entry); standing = n }) (now (r .entry)) .bytes) ⌝ }
 {
     if change_copy(r, w, out, tag, i, at, b, n) {
         list::put(r, w);
@@ -85,7 +85,7 @@ fn change_in(
 fn change_small(r: &mut [u8], tag: u8, i: usize, at: usize, b: &[u8], n: usize) -> Answer
     requires { ⌜ Head (now r) × (length (now r) ≤ 55400) ⌝ }
     requires { ⌜ (i < objectLimit (now r)) × ((n ≤ objectLimit (now r)) × (at + length (now b) ≤ 1184)) ⌝ }
-    ensures { λ a. ⌜ (a ≡ changeTo tag i at (now (b .entry)) n (now (r .entry)) .answer) × (now (r .exit) ≡ changeTo tag i at (now (b .entry)) n (now (r .entry)) .bytes) ⌝ }
+    ensures { λ a. ⌜ (a ≡ changeTo (record { tag = tag; object = i; place = at; bytes = now (b .entry); standing = n }) (now (r .entry)) .answer) × (now (r .exit) ≡ changeTo (record { tag = tag; object = i; place = at; bytes = now (b .entry); standing = n }) (now (r .entry)) .bytes) ⌝ }
 {
     let end = area_of(r);
     let mut w = [0u8; SMALL];
@@ -105,7 +105,7 @@ fn change_small(r: &mut [u8], tag: u8, i: usize, at: usize, b: &[u8], n: usize) 
 fn change_large(r: &mut [u8], tag: u8, i: usize, at: usize, b: &[u8], n: usize) -> Answer
     requires { ⌜ Head (now r) ⌝ }
     requires { ⌜ (i < objectLimit (now r)) × ((n ≤ objectLimit (now r)) × (at + length (now b) ≤ 1184)) ⌝ }
-    ensures { λ a. ⌜ (a ≡ changeTo tag i at (now (b .entry)) n (now (r .entry)) .answer) × (now (r .exit) ≡ changeTo tag i at (now (b .entry)) n (now (r .entry)) .bytes) ⌝ }
+    ensures { λ a. ⌜ (a ≡ changeTo (record { tag = tag; object = i; place = at; bytes = now (b .entry); standing = n }) (now (r .entry)) .answer) × (now (r .exit) ≡ changeTo (record { tag = tag; object = i; place = at; bytes = now (b .entry); standing = n }) (now (r .entry)) .bytes) ⌝ }
 {
     let end = area_of(r);
     let mut w = [0u8; LARGEST];
@@ -125,7 +125,7 @@ fn change_large(r: &mut [u8], tag: u8, i: usize, at: usize, b: &[u8], n: usize) 
 // Puts b at a place of object i's own data, n objects standing then: a change, unless a list would pass 1,024 bytes.
 pub(crate) fn change(r: &mut [u8], tag: u8, i: usize, at: usize, b: &[u8], n: usize) -> Answer
     requires { ⌜ Head (now r) × ((i < objectLimit (now r)) × ((n ≤ objectLimit (now r)) × (at + length (now b) ≤ 1184))) ⌝ }
-    ensures { λ a. ⌜ (a ≡ changeTo tag i at (now (b .entry)) n (now (r .entry)) .answer) × (now (r .exit) ≡ changeTo tag i at (now (b .entry)) n (now (r .entry)) .bytes) ⌝ }
+    ensures { λ a. ⌜ (a ≡ changeTo (record { tag = tag; object = i; place = at; bytes = now (b .entry); standing = n }) (now (r .entry)) .answer) × (now (r .exit) ≡ changeTo (record { tag = tag; object = i; place = at; bytes = now (b .entry); standing = n }) (now (r .entry)) .bytes) ⌝ }
 {
     if r.len() <= SMALL {
         return change_small(r, tag, i, at, b, n);

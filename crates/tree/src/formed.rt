@@ -3,6 +3,7 @@ ghost use mathlib.Core.Path.{_≡_};
 ghost use Prim.Native.Nat.{_<_};
 ghost use Rattle.inherit.specs.Compute.{ruleOk};
 ghost use Rattle.tree.specs.General.{every};
+ghost use Rattle.tree.specs.Held.{parentIn};
 ghost use Rattle.tree.specs.Room.{ownData as Room·own, step as Room·step};
 ghost use Rattle.tree.specs.Formed.{countsOk, settingsOk, placedIn as Formed·placed, objectOk, againOk, stepOk, standing as Formed·standing, stepsOk, formed as Formed·formed};
 use crate::held::alike;
@@ -71,13 +72,13 @@ fn settings_ok(e: &[u8]) -> bool
     slot_ok(part_of(e, DEFAULT_AT, SLOT))
 }
 
-// Whether p may be the parent of object i.
+// Whether p may be the parent of object i; `nobody` is no parent.
 pub(crate) fn placed(r: &[u8], nobody: usize, i: usize, p: usize) -> bool
     requires { ⌜ i < 256 ⌝ }
-    ensures { λ b. ⌜ b ≡ Formed·placed nobody (λ j. Room·own j (now (r .entry))) i p ⌝ }
+    ensures { λ b. ⌜ b ≡ Formed·placed (λ j. Room·own j (now (r .entry))) i (parentIn nobody p) ⌝ }
 {
-    if i == 0 {
-        return p == nobody;
+    if p == nobody {
+        return i == 0;
     }
     if p < i {
         return byte_in(own(r, p), 1) == 1;

@@ -8,7 +8,7 @@ ghost use Rattle.inherit.specs.Asked.{lent};
 ghost use Rattle.tree.specs.Model.{shortIf as Calls·short};
 ghost use Rattle.tree.specs.Held.{held};
 ghost use Rattle.tree.specs.Room.{roomFor, roomOf, emptyRoom};
-ghost use Rattle.tree.specs.Calls.{Says, Promised, answerValues, list as Edit·list, mark as Edit·mark, owners as Edit·owners, toldAs as Calls·told, startOk, listBytes, dataOf, copied, startTo, addTo, alterTo, undoTo, listTo, ownTo, dataTo, countsTo};
+ghost use Rattle.tree.specs.Calls.{Says, Promised, answerValues, list as Edit·list, mark as Edit·mark, owners as Edit·owners, toldAs as Calls·told, objectFor, startOk, listBytes, dataOf, copied, startTo, addTo, alterTo, undoTo, listTo, ownTo, dataTo, countsTo};
 ghost use Rattle.tree.specs.declared.Answer.the-variants.{Done as Answer·Done, Refused as Answer·Refused};
 use changes::change;
 use changes::take_back;
@@ -133,7 +133,7 @@ fn empty(
     default: &[u8],
 )
     requires { ⌜ (objects ≤ 64) × ((steps ≤ 64) × ((Calls·short (lent has (now default)) ≡ true) × (roomFor objects steps ≤ length (now r)))) ⌝ }
-    ensures { λ _. ⌜ now (r .exit) ≡ front (emptyRoom objects steps rule m (lent has (now (default .entry)))) (now (r .entry)) ⌝ }
+    ensures { λ _. ⌜ now (r .exit) ≡ front (emptyRoom (record { object-limit = objects; step-limit = steps; rule = rule; mapping = m; default = lent has (now (default .entry)) })) (now (r .entry)) ⌝ }
 {
     r[0] = objects as u8;
     r[1] = steps as u8;
@@ -153,7 +153,7 @@ pub fn start(
     has: bool,
     default: &[u8],
 ) -> Answer
-    ensures { λ a. ⌜ Promised (startTo objects steps rule mapping (lent has (now (default .entry))) (now (room .entry))) a (now (room .exit)) ⌝ }
+    ensures { λ a. ⌜ Promised (startTo (record { object-limit = objects; step-limit = steps; rule = rule; mapping = mapping; default = lent has (now (default .entry)) }) (now (room .entry))) a (now (room .exit)) ⌝ }
 {
     if !start_ok(objects, steps, rule, room.len()) {
         return refused(12);
@@ -193,7 +193,7 @@ pub fn add(
     has: bool,
     list: &[u8],
 ) -> Answer
-    ensures { λ a. ⌜ Promised (addTo (record { parent = parent; container = container; mark = mark; type = kind; owner = now (owner .entry); group = now (group .entry); list = lent has (now (list .entry)) }) (now (room .entry))) a (now (room .exit)) ⌝ }
+    ensures { λ a. ⌜ Promised (addTo (objectFor (record { parent = parent; container = container; mark = mark; type = kind; owner = now (owner .entry); group = now (group .entry); list = lent has (now (list .entry)) })) (now (room .entry))) a (now (room .exit)) ⌝ }
 {
     let k = add_fault(room, parent as usize);
     if k != 0 {

@@ -6,7 +6,7 @@ ghost use lib.ListN.{length};
 ghost use Rattle.list.specs.Bytes.{putAt};
 ghost use Rattle.tree.specs.Room.{objectLimit, stepLimit, keptSteps, roomFor, ownData as Room·own, area};
 ghost use Rattle.tree.specs.Formed.{Head};
-ghost use Rattle.tree.specs.Calls.{shifted, pushed, popped};
+ghost use Rattle.tree.specs.Calls.{stepKept, stepGone};
 use crate::held::number_in;
 use crate::places::OBJECT;
 use crate::places::OBJECTS_AT;
@@ -15,21 +15,6 @@ use crate::places::own;
 use crate::writes::lay;
 use crate::writes::least;
 use list::part_of;
-
-// The room's area to w, with place for a step in front.
-fn shift(r: &[u8], w: &mut [u8])
-    requires { ⌜ Head (now r) × ((0 < stepLimit (now r)) × (length (now w) ≡ roomFor (objectLimit (now r)) (stepLimit (now r)))) ⌝ }
-    ensures { λ _. ⌜ now (w .exit) ≡ shifted (area (now (r .entry))) ⌝ }
-{
-    let n = number_in(r, 0);
-    let s = number_in(r, 1);
-    let k = number_in(r, 3);
-    let at = OBJECTS_AT + n * OBJECT;
-    let room = at + s * STEP;
-    lay(w, 0, part_of(r, 0, room));
-    lay(w, at + STEP, part_of(r, at, (s - 1) * STEP));
-    w[3] = least(s, k + 1) as u8;
-}
 
 // A step at a place.
 fn lay_step(w: &mut [u8], at: usize, tag: u8, i: u8, b: &[u8])
@@ -41,25 +26,39 @@ fn lay_step(w: &mut [u8], at: usize, tag: u8, i: u8, b: &[u8])
     lay(w, at + 2, b);
 }
 
+// The room's area to w, with a step kept for object i in front of the others, where the limit allows one.
+fn push_some(r: &[u8], w: &mut [u8], tag: u8, i: usize)
+    requires { ⌜ Head (now r) × ((0 < stepLimit (now r)) × ((length (now w) ≡ roomFor (objectLimit (now r)) (stepLimit (now r))) × (i < objectLimit (now r)))) ⌝ }
+    ensures { λ _. ⌜ now (w .exit) ≡ stepKept (tag ∷ i ∷ Room·own i (area (now (r .entry)))) (area (now (r .entry))) ⌝ }
+{
+    let n = number_in(r, 0);
+    let s = number_in(r, 1);
+    let k = number_in(r, 3);
+    let at = OBJECTS_AT + n * OBJECT;
+    let room = at + s * STEP;
+    lay(w, 0, part_of(r, 0, room));
+    lay_step(w, at, tag, i as u8, own(r, i));
+    lay(w, at + STEP, part_of(r, at, (s - 1) * STEP));
+    w[3] = least(s, k + 1) as u8;
+}
+
 // The room's area to w, with a step kept for object i.
 pub(crate) fn push(r: &[u8], w: &mut [u8], tag: u8, i: usize)
     requires { ⌜ Head (now r) × ((length (now w) ≡ roomFor (objectLimit (now r)) (stepLimit (now r))) × (i < objectLimit (now r))) ⌝ }
-    ensures { λ _. ⌜ now (w .exit) ≡ pushed (tag ∷ i ∷ Room·own i (area (now (r .entry)))) (area (now (r .entry))) ⌝ }
+    ensures { λ _. ⌜ now (w .exit) ≡ stepKept (tag ∷ i ∷ Room·own i (area (now (r .entry)))) (area (now (r .entry))) ⌝ }
 {
-    let n = number_in(r, 0);
-    let at = OBJECTS_AT + n * OBJECT;
     if number_in(r, 1) == 0 {
-        lay(w, 0, part_of(r, 0, at));
+        let n = number_in(r, 0);
+        lay(w, 0, part_of(r, 0, OBJECTS_AT + n * OBJECT));
         return;
     }
-    shift(r, w);
-    lay_step(w, at, tag, i as u8, own(r, i));
+    push_some(r, w, tag, i);
 }
 
 // The room's area to w, with the latest step taken off.
 pub(crate) fn pop(r: &[u8], w: &mut [u8])
     requires { ⌜ Head (now r) × ((0 < keptSteps (now r)) × (length (now w) ≡ roomFor (objectLimit (now r)) (stepLimit (now r)))) ⌝ }
-    ensures { λ _. ⌜ now (w .exit) ≡ popped (area (now (r .entry))) ⌝ }
+    ensures { λ _. ⌜ now (w .exit) ≡ stepGone (area (now (r .entry))) ⌝ }
 {
     let n = number_in(r, 0);
     let s = number_in(r, 1);

@@ -2,6 +2,8 @@
 ghost use mathlib.Core.Path.{_≡_};
 ghost use Rattle.inherit.specs.Asked.{lent};
 ghost use Rattle.tree.specs.Model.{shortIf as Calls·short};
+ghost use Rattle.tree.specs.Held.{parentIn};
+ghost use Rattle.tree.specs.Calls.{nobody};
 ghost use Rattle.tree.specs.Inner.Faults.{objectFault, addFault, faultBy, faultOf};
 use crate::Answer;
 use crate::formed::formed;
@@ -66,7 +68,7 @@ pub(crate) fn object_fault(r: &[u8], i: usize) -> u8
 
 // The room, the parent of a new object, and place for it.
 pub(crate) fn add_fault(r: &[u8], parent: usize) -> u8
-    ensures { λ k. ⌜ k ≡ addFault (now (r .entry)) parent ⌝ }
+    ensures { λ k. ⌜ k ≡ addFault (now (r .entry)) (parentIn nobody parent) ⌝ }
 {
     if !formed(r) {
         return 13;

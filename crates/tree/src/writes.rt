@@ -7,8 +7,9 @@ ghost use Prim.Native.Nat.{_+_, _≤_, min};
 ghost use lib.ListN.{length, replicate};
 ghost use Rattle.list.specs.Bytes.{putAt, spell};
 ghost use Rattle.inherit.specs.Asked.{lent};
-ghost use Rattle.tree.specs.Model.{shortIf};
-ghost use Rattle.tree.specs.Held.{yes, slotFor, idFor, blockFor};
+ghost use Rattle.tree.specs.Model.{parentByte, shortIf};
+ghost use Rattle.tree.specs.Held.{yes, slotFor, idFor, parentIn, blockFor};
+ghost use Rattle.tree.specs.Calls.{nobody, objectFor};
 ghost use Rattle.tree.specs.Room.{settingsFor};
 use crate::places::DEFAULT_AT;
 use crate::places::IDENTITY;
@@ -109,8 +110,9 @@ pub(crate) fn lay_new(
     has: bool,
     s: &[u8],
 )
+    requires { ⌜ parentByte (parentIn nobody parent) ≡ min 255 parent ⌝ }
     requires { ⌜ (length (now owner) ≤ 68) × ((length (now group) ≤ 68) × ((shortIf (lent has (now s)) ≡ true) × (length (now w) ≡ 1184))) ⌝ }
-    ensures { λ _. ⌜ now (w .exit) ≡ blockFor (record { parent = parent; container = container; mark = mark; type = kind; owner = now (owner .entry); group = now (group .entry); list = lent has (now (s .entry)) }) ⌝ }
+    ensures { λ _. ⌜ now (w .exit) ≡ blockFor (objectFor (record { parent = parent; container = container; mark = mark; type = kind; owner = now (owner .entry); group = now (group .entry); list = lent has (now (s .entry)) })) ⌝ }
 {
     w[0] = least(255, parent) as u8;
     w[1] = bit(container);

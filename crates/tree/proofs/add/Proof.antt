@@ -4,7 +4,7 @@ use native.Mathlib.Omega.{arith}
 use mathlib.Core.Path.{refl}
 use Rattle.tree.proofs.Slots.{ordinary-most}
 use Rattle.tree.proofs.Tested.{refused, passed}
-use Rattle.tree.proofs.Changing.{add-no, add-list, add-owner, add-group, add-long, add-done, add-asks}
+use Rattle.tree.proofs.Changing.{add-no, add-list, add-owner, add-group, add-long, add-done, add-asks, add-parent}
 use Rattle.tree.proofs.add.Statement.{statement}
 use Rattle.tree.proofs.add.Tie as tie
 
@@ -94,7 +94,9 @@ lay-new-requires c κs =
     let o = g .before .before in
     let owner-ok = passed (o .ordinary .ensures) (g .before .if3 .left) in
     let group-ok = passed (g .ordinary2 .ensures) (s .before .if4 .left) in
-    (ordinary-most _ owner-ok, (ordinary-most _ group-ok, (passed (s .short .ensures) (c .before .before .before .if5 .left), refl)))
+    let at = o .before .before .before .before in
+    let short = passed (s .short .ensures) (c .before .before .before .if5 .left) in
+    (add-parent _ _ _ (at .before .add-fault .ensures) (at .if1 .left), (ordinary-most _ owner-ok, (ordinary-most _ group-ok, (short, refl))))
 
 slice-aggregate-change : tie.Need-slice-aggregate-change
 slice-aggregate-change c = search needs

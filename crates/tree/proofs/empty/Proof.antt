@@ -49,7 +49,7 @@ returns c =
     let l = c .before .before .before .before .before .before in
     let s = l .before .before .before .before in
     let a = s .args in
-    empty-laid (a .objects) (a .steps) (a .rule) (a .m) _ (now (a .r)) _ _ (s .pre .1 .1 .0) (s .pre .1 .1 .1)
+    empty-laid _ (now (a .r)) _ _ (s .pre .1 .1 .0) (s .pre .1 .1 .1)
     (l .lay-settings .ensures) (c .before .before .zero .ensures)
 
 pub empty-spec : {M : Type 1} → statement M

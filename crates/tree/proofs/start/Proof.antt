@@ -8,7 +8,7 @@ use Prim.Native.Nat.{ℕ}
 use denote.Ref.{now}
 use lib.ListN.{length}
 use Rattle.inherit.specs.Asked.{lent}
-use Rattle.tree.specs.Model.{shortIf}
+use Rattle.tree.specs.Model.{Settings, shortIf}
 use Rattle.tree.specs.declared.Answer.{Answer}
 use Rattle.tree.specs.declared.Answer.the-variants.{Refused}
 use Rattle.tree.specs.declared.tests.Fault.{Fault}
@@ -38,17 +38,19 @@ start-ok-requires c κs = search needs
 refused-requires : tie.Need-refused-requires
 refused-requires c κs = search needs
 
--- where the call begins, from behind its first test; and its promise there
+-- where the call begins, from behind its first test; what is asked there, and its promise
 abbrev start1 : tie.Else1 → tie.Start
 start1 c = c .before .before .before .before
 
+abbrev asked : tie.Start → Settings
+asked s = let a = s .args in
+    record { object-limit = a .objects; step-limit = a .steps; rule = a .rule; mapping = a .mapping; default = lent (a .has) (now (a .default)) }
+
 abbrev outcome : tie.Start → Outcome
-outcome s = let a = s .args in startTo (a .objects) (a .steps) (a .rule) (a .mapping) (lent (a .has) (now (a .default))) (now (a .room))
+outcome s = startTo (asked s) (now (s .args .room))
 
 start-kept : (s : tie.Start) {a : Answer} {x : List ℕ} → (a ≡ outcome s .answer) × (x ≡ outcome s .bytes) → Promised (outcome s) a x
-start-kept s p =
-    let a = s .args in
-    start-promised (now (a .room)) (a .objects) (a .steps) (a .rule) (a .mapping) (lent (a .has) (now (a .default))) p
+start-kept s p = start-promised (now (s .args .room)) (asked s) p
 
 returns : tie.Need-returns
 unfolding startTo

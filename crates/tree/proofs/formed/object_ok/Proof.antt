@@ -5,7 +5,7 @@ use mathlib.Core.List.{List}
 use mathlib.Core.Bool.{Bool, true}
 use Prim.Native.Nat.{ℕ}
 use denote.Ref.{now}
-use Rattle.tree.specs.Held.{slotOk, blockOk, parentByteIn}
+use Rattle.tree.specs.Held.{slotOk, blockOk, parentByteIn, parentIn}
 use Rattle.tree.specs.Room.{ownData}
 use Rattle.tree.specs.Formed.{placedIn, objectOk}
 use Rattle.tree.proofs.Tested.{refused, passed}
@@ -24,7 +24,7 @@ parent-here c = c .number-in .ensures .0 ∙ ap (λ (b : List ℕ). parentByteIn
 
 -- the object has its place below such a parent
 abbrev placed-by : tie.Start → ℕ → Bool
-placed-by s parent = placedIn 255 (λ j. ownData j (now (s .args .r))) (s .args .i) parent
+placed-by s parent = placedIn (λ j. ownData j (now (s .args .r))) (s .args .i) (parentIn 255 parent)
 
 placed-here : (c : tie.After-placed)
     → let s = c .before .before .before .before .before .before in c .placed .result ≡ placed-by s (parentByteIn (own-here s))

@@ -13,7 +13,7 @@ use Rattle.tree.proofs.formed.placed.Tie as tie
 
 returns : tie.Need-returns
 unfolding placedIn
-returns c = simp (eq-eqb (c .before .before .args .i) 0 (c .if1 .taken))
+returns c = let a = c .before .before .args in simp (eq-eqb (a .p) (a .nobody) (c .if1 .taken))
 
 own-requires : tie.Need-own-requires
 own-requires c κs = search needs
@@ -25,14 +25,14 @@ returns-2 : tie.Need-returns-2
 unfolding placedIn
 returns-2 c =
     let a = c .before .before .before .before .before .args in
-    simp (ne-eqb (a .i) 0 (c .before .before .before .if1 .left), lt-ltb (a .p) (a .i) (c .before .before .if2 .taken))
+    simp (ne-eqb (a .p) (a .nobody) (c .before .before .before .if1 .left), lt-ltb (a .p) (a .i) (c .before .before .if2 .taken))
     (ap (λ (n : ℕ). eqb n 1) (c .byte-in .ensures ∙ ap (λ (b : List ℕ). kindByte b) (c .before .own .ensures)))
 
 returns-3 : tie.Need-returns-3
 unfolding placedIn
 returns-3 c =
     let a = c .before .before .before .args in
-    simp (ne-eqb (a .i) 0 (c .before .if1 .left), le-ltb (a .p) (a .i) (omega arith))
+    simp (ne-eqb (a .p) (a .nobody) (c .before .if1 .left), le-ltb (a .p) (a .i) (omega arith))
 
 pub placed-spec : {M : Type 1} → statement M
 placed-spec = tie.close (tie.spec returns own-requires byte-in-requires returns-2 returns-3)

@@ -4,7 +4,7 @@ use native.Mathlib.Omega.{arith}
 use mathlib.Core.Path.{_∙_}
 use denote.Ref.{now}
 use lib.ListN.{length-set}
-use Rattle.tree.proofs.Kept.{most, pop-is}
+use Rattle.tree.proofs.Kept.{most, gone-is}
 use Rattle.tree.proofs.steps.pop.Statement.{statement}
 use Rattle.tree.proofs.steps.pop.Tie as tie
 
@@ -67,7 +67,7 @@ returns c =
     let l = c .before .before .before .before .before .before .before in
     let h = l .before .before .before in
     let a = h .before .before .before .before .before .args in
-    pop-is (now (a .r)) _ _ (h .before .before .number-in .ensures .0) (h .before .number-in2 .ensures .0) (now (a .w)) (omega arith) (omega arith)
+    gone-is (now (a .r)) _ _ (h .before .before .number-in .ensures .0) (h .before .number-in2 .ensures .0) (now (a .w)) (omega arith) (omega arith)
     _ _ _ _ _ (omega arith) (h .number-in3 .ensures .0)
     (l .before .part-of .ensures) (l .lay .ensures) (c .before .before .before .part-of2 .ensures) (c .before .before .lay2 .ensures)
 

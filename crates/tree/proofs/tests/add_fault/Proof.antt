@@ -6,6 +6,7 @@ use mathlib.Core.Bool.{Bool, true}
 use Prim.Native.Nat.{ℕ}
 use denote.Ref.{now}
 use borrow.Author.Tests.{lt-ltb, le-ltb}
+use Rattle.tree.specs.Held.{parentIn}
 use Rattle.tree.specs.Room.{objectLimit, objects, ownData}
 use Rattle.tree.specs.Formed.{placedIn, formed}
 use Rattle.tree.specs.Calls.{nobody}
@@ -19,7 +20,7 @@ formed-yes c = passed (c .before .formed .ensures) (c .if1 .left)
 
 -- the parent that is asked for has a place among so many objects
 abbrev placed-by : tie.Start → ℕ → Bool
-placed-by s n = placedIn nobody (λ j. ownData j (now (s .args .r))) n (s .args .parent)
+placed-by s n = placedIn (λ j. ownData j (now (s .args .r))) n (parentIn nobody (s .args .parent))
 
 placed-here : (c : tie.After-placed)
     → let s = c .before .before .before .before .before in c .placed .result ≡ placed-by s (objects (now (s .args .r)))

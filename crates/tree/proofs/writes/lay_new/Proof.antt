@@ -41,13 +41,13 @@ lay-requires c κs =
 lay-owners-requires : tie.Need-lay-owners-requires
 lay-owners-requires c κs =
     let l = c .before .before .before in
-    let p = l .before .before .before .before .before .before .before .before .before .before .pre in
+    let p = l .before .before .before .before .before .before .before .before .before .before .pre .1 in
     (p .0, (p .1 .0, omega (arith, simp length-set at (l .lay .kept .0))))
 
 lay-slot-requires : tie.Need-lay-slot-requires
 lay-slot-requires c κs =
     let l = c .before .before .before .before .before .before .before in
-    (l .before .before .before .before .before .before .before .before .before .before .pre .1 .1 .0, omega (arith, simp length-set at (l .lay .kept .0)))
+    (l .before .before .before .before .before .before .before .before .before .before .pre .1 .1 .1 .0, omega (arith, simp length-set at (l .lay .kept .0)))
 
 same-length : tie.Need-same-length
 same-length c = omega (arith, simp length-set at (c .before .before .before .before .before .before .before .before .before .before .lay .kept .0))
@@ -58,9 +58,9 @@ returns c =
     let z = l .before .before .before in
     let s = z .before .before .before .before .before .before .before in
     let a = s .args in
-    let p = s .pre in
+    let p = s .pre .1 in
     let t : length (a .t5) ≡ 16 = search needs in
-    block-laid _ t (p .0) (p .1 .0) (p .1 .1 .0) _ _ _ (now (a .w)) _ _ _ (p .1 .1 .1)
+    block-laid _ (s .pre .0) t (p .0) (p .1 .0) (p .1 .1 .0) _ _ _ (now (a .w)) _ _ _ (p .1 .1 .1)
     (z .before .before .least .ensures) (z .before .bit .ensures) (z .bit2 .ensures)
     (l .lay .ensures) (c .before .before .before .before .before .before .lay-owners .ensures) (c .before .before .lay-slot .ensures)
 
