@@ -10,7 +10,7 @@ use Rattle.inherit.specs.Asked.{Asked, has, lent}
 use Rattle.inherit.specs.Compute.{computeOf, outOf}
 use Rattle.inherit.specs.declared.Settings.{Settings}
 use Rattle.inherit.specs.declared.Mapping.{Mapping}
-use Rattle.tree.specs.Held.{New}
+use Rattle.tree.specs.Calls.{New}
 
 -- the values of an answer in their places (RULES 8.1); the last place is 0
 abbrev pub placesOf : Values → List ℕ

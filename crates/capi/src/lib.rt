@@ -10,7 +10,7 @@ ghost use Rattle.inherit.specs.Asked.{lent};
 ghost use Rattle.inherit.specs.Compute.{askedBy};
 ghost use Rattle.tree.specs.Held.{yes};
 ghost use Rattle.tree.specs.Room.{roomOf};
-ghost use Rattle.tree.specs.Calls.{list as Edit·list, mark as Edit·mark, owners as Edit·owners, answerValues as Calls·valuesOf, startTo, addTo, alterTo, undoTo, listTo, ownTo, dataTo, countsTo};
+ghost use Rattle.tree.specs.Calls.{list as Edit·list, mark as Edit·mark, owners as Edit·owners, answerValues as Calls·valuesOf, objectFor, startTo, addTo, alterTo, undoTo, listTo, ownTo, dataTo, countsTo};
 ghost use Rattle.script.specs.Play.{playTo};
 ghost use Rattle.capi.specs.Places.{placesOf, settingsOf, mappingFrom, yesOf, newOf, Computes};
 use inherit::Computed;
@@ -207,8 +207,8 @@ pub extern "C" fn pt_start(
     default: &[u8],
     answer: &mut [u32; 8],
 )
-    ensures answer { λ _. ⌜ now (answer .exit) ≡ placesOf (Calls·valuesOf (startTo objects steps rule (mappingFrom (now (mapping .entry))) (lent (yesOf given) (now (default .entry))) (now (room .entry)) .answer)) ⌝ }
-    ensures room { λ _. ⌜ now (room .exit) ≡ startTo objects steps rule (mappingFrom (now (mapping .entry))) (lent (yesOf given) (now (default .entry))) (now (room .entry)) .bytes ⌝ }
+    ensures answer { λ _. ⌜ now (answer .exit) ≡ placesOf (Calls·valuesOf (startTo (record { object-limit = objects; step-limit = steps; rule = rule; mapping = mappingFrom (now (mapping .entry)); default = lent (yesOf given) (now (default .entry)) }) (now (room .entry)) .answer)) ⌝ }
+    ensures room { λ _. ⌜ now (room .exit) ≡ startTo (record { object-limit = objects; step-limit = steps; rule = rule; mapping = mappingFrom (now (mapping .entry)); default = lent (yesOf given) (now (default .entry)) }) (now (room .entry)) .bytes ⌝ }
 {
     let m = mapping_of(mapping);
     put_answer(
@@ -229,8 +229,8 @@ pub extern "C" fn pt_add(
     list: &[u8],
     answer: &mut [u32; 8],
 )
-    ensures answer { λ _. ⌜ now (answer .exit) ≡ placesOf (Calls·valuesOf (addTo (newOf parent traits (now (kind .entry)) (now (owner .entry)) (now (group .entry)) (now (list .entry))) (now (room .entry)) .answer)) ⌝ }
-    ensures room { λ _. ⌜ now (room .exit) ≡ addTo (newOf parent traits (now (kind .entry)) (now (owner .entry)) (now (group .entry)) (now (list .entry))) (now (room .entry)) .bytes ⌝ }
+    ensures answer { λ _. ⌜ now (answer .exit) ≡ placesOf (Calls·valuesOf (addTo (objectFor (newOf parent traits (now (kind .entry)) (now (owner .entry)) (now (group .entry)) (now (list .entry)))) (now (room .entry)) .answer)) ⌝ }
+    ensures room { λ _. ⌜ now (room .exit) ≡ addTo (objectFor (newOf parent traits (now (kind .entry)) (now (owner .entry)) (now (group .entry)) (now (list .entry)))) (now (room .entry)) .bytes ⌝ }
 {
     put_answer(
         answer,

@@ -37,7 +37,7 @@ use Rattle.script.specs.Play.{mapping, began, beginTo, fresh, Ending, Li
 -- ---- the room
 
 -- the start of a script's tree is accepted
-start-done : (r : List ℕ) → length r ≡ 55400 → accepted (startTo 16 16 2 mapping none r .answer) ≡ true
+start-done : (r : List ℕ) → length r ≡ 55400 → accepted (startTo began r .answer) ≡ true
 unfolding startTo need readableTo shortIf startOk limitsOk ruleOk
 start-done r h = rw h refl
 
@@ -46,11 +46,11 @@ unfolding beginTo
 begun = start-done (replicate 55400 0) (length-replicate {A = ℕ} 55400 0)
 
 -- whatever the room held
-begin-empty : (r : List ℕ) → length r ≡ 55400 → beginTo r .bytes ≡ emptyRoom 16 16 2 mapping none
+begin-empty : (r : List ℕ) → length r ≡ 55400 → beginTo r .bytes ≡ emptyRoom began
 unfolding beginTo startTo need readableTo shortIf startOk limitsOk ruleOk emptyRoom
 begin-empty r h =
     rw h
-    (front-all (emptyRoom 16 16 2 mapping none) r
+    (front-all (emptyRoom began) r
     (rw h (simp (length-append, length-replicate, length-settings 2 mapping none refl) (omega arith))))
 
 pub begin-any : (r : List ℕ) → length r ≡ 55400 → beginTo r .bytes ≡ fresh

@@ -81,7 +81,7 @@ unfolding le nameEnd listEnd recordSize formOk stepOf past onStep runBy runOf sc
 heads-worked = (refl, (refl, (refl, (refl, (refl, (refl, refl))))))
 
 pub began-worked :
-    began ≡ record { objects = 16; steps = 16; rule = 2; mapping = record { read = 0x00120089; write = 0x00120116; execute = 0x001200A0; all = 0x001F01FF }; default = none }
+    began ≡ record { object-limit = 16; step-limit = 16; rule = 2; mapping = record { read = 0x00120089; write = 0x00120116; execute = 0x001200A0; all = 0x001F01FF }; default = none }
 began-worked = refl
 
 -- ---- texts

@@ -8,12 +8,13 @@ use lib.Dec.{eqb, leb}
 use Rattle.list.specs.Bytes.{le}
 use Rattle.inherit.specs.declared.Mapping.{Mapping}
 use Rattle.inherit.specs.Asked.{MaybeList}
-use Rattle.tree.specs.Shown.{Begin, startWith, listsIn}
+use Rattle.tree.specs.Model.{Settings}
+use Rattle.tree.specs.Shown.{listsIn}
 use Rattle.tree.specs.declared.Answer.{Answer}
 use Rattle.tree.specs.declared.Answer.the-variants.{Done}
 use Rattle.tree.specs.Formed.{formed}
 use Rattle.list.specs.Order.{need}
-use Rattle.tree.specs.Calls.{Outcome, copied, refuse}
+use Rattle.tree.specs.Calls.{Outcome, copied, refuse, startTo}
 use Rattle.script.specs.Fold.{Run, runOf, Stage}
 use Rattle.script.specs.Text.{listing, badLine}
 
@@ -22,11 +23,11 @@ abbrev pub mapping : Mapping
 mapping = record { read = 0x00120089; write = 0x00120116; execute = 0x001200A0; all = 0x001F01FF }
 
 -- the program's tree: limits 16 and 16, rule 2, that mapping, no default
-abbrev pub began : Begin
-began = record { objects = 16; steps = 16; rule = 2; mapping = mapping; default = none }
+abbrev pub began : Settings
+began = record { object-limit = 16; step-limit = 16; rule = 2; mapping = mapping; default = none }
 
 unfoldable pub beginTo : List ℕ → Outcome
-beginTo r = startWith began r
+beginTo r = startTo began r
 
 -- `AXS` and the 16-bit version 1
 unfoldable pub scriptHeadOk : List ℕ → Bool

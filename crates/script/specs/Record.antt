@@ -7,8 +7,7 @@ use lib.Dec.{eqb, leb}
 use Rattle.list.specs.Bytes.{le, part, guidAt}
 use Rattle.inherit.specs.Asked.{MaybeList, lent}
 use Rattle.tree.specs.Shown.{Request, change, undo}
-use Rattle.tree.specs.Held.{New}
-use Rattle.tree.specs.Calls.{list, mark, owners, nobody, ChangeGiven, add, alter}
+use Rattle.tree.specs.Calls.{list, mark, owners, New, nobody, ChangeGiven, add, alter}
 use Rattle.script.specs.declared.records.Found.{Found}
 use Rattle.script.specs.declared.records.Found.the-variants.{Cut, Bad, Record}
 

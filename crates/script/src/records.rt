@@ -3,7 +3,7 @@ ghost use mathlib.Core.Path.{_≡_};
 ghost use Prim.Native.Nat.{_+_, _≤_};
 ghost use lib.ListN.{getD};
 ghost use Rattle.tree.specs.Shown.{undo, callOn};
-ghost use Rattle.tree.specs.Calls.{Promised, list as Edit·list, owners as Edit·owners, addTo, alterTo};
+ghost use Rattle.tree.specs.Calls.{Promised, list as Edit·list, owners as Edit·owners, objectFor, addTo, alterTo};
 ghost use Rattle.script.specs.Record.{nameIn, nameEnd, listIn, listEnd, flagOk, flag as Record·flag, parentNamed, recordSize, formOk, newIn, recordAsks, stepOf};
 use list::byte_in;
 use list::guid_at;
@@ -120,7 +120,7 @@ fn parent_of(b: u8) -> u32
 
 // Record 1.
 fn add(room: &mut [u8], t: &[u8]) -> Answer
-    ensures { λ a. ⌜ Promised (addTo (newIn (now (t .entry))) (now (room .entry))) a (now (room .exit)) ⌝ }
+    ensures { λ a. ⌜ Promised (addTo (objectFor (newIn (now (t .entry)))) (now (room .entry))) a (now (room .exit)) ⌝ }
 {
     let group_at = name_end(t, 20);
     let list_at = name_end(t, group_at);

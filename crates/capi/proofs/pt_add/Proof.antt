@@ -9,8 +9,7 @@ use mathlib.Core.List.{List}
 use Prim.Native.Nat.{ℕ}
 use denote.Ref.{now}
 use Rattle.inherit.specs.Asked.{has, lent}
-use Rattle.tree.specs.Held.{New}
-use Rattle.tree.specs.Calls.{Outcome, addTo}
+use Rattle.tree.specs.Calls.{Outcome, New, objectFor, addTo}
 use Rattle.capi.specs.Places.{newOf}
 use Rattle.capi.proofs.pt_add.Statement.{statement}
 use Rattle.capi.proofs.pt_add.Tie as tie
@@ -44,7 +43,7 @@ returns c =
     let kind = mark .before in
     let a = kind .before .before .before .before .before .before .before .args in
     let s = k .add .ensures in
-    let e = ap (λ (n : New). addTo n (now (a .room)))
+    let e = ap (λ (n : New). addTo (objectFor n) (now (a .room)))
     (traits-found (a .parent) (a .traits) _ _ _ (now (a .kind)) (now (a .owner)) (now (a .group)) (now (a .list))
     (kind .has .ensures) (mark .has2 .ensures) (k .before .has3 .ensures)) in (
       c .put-answer .ensures ∙ ap placesOf (s .answer .values ∙ ap (λ (o : Outcome). answerValues (o .answer)) e),

@@ -6,6 +6,7 @@ use Rattle.capi.specs.Places.{placesOf}
 use denote.Ref.{now}
 use Rattle.inherit.specs.declared.Mapping.{Mapping}
 use Rattle.inherit.specs.Asked.{lent}
+use Rattle.tree.specs.Model.{Settings}
 use Rattle.tree.specs.Calls.{Outcome, startTo}
 use Rattle.capi.specs.Places.{yesOf}
 use Rattle.capi.proofs.pt_start.Statement.{statement}
@@ -29,7 +30,9 @@ returns c =
     let m = k .before .before .before in
     let a = m .before .before .before .args in
     let s = k .start .ensures in
-    let e = ap (λ (n : Mapping). startTo (a .objects) (a .steps) (a .rule) n (lent (yesOf (a .given)) (now (a .default))) (now (a .room)))
+    let asked : Mapping → Settings =
+    λ n. record { object-limit = a .objects; step-limit = a .steps; rule = a .rule; mapping = n; default = lent (yesOf (a .given)) (now (a .default)) } in
+    let e = ap (λ (n : Mapping). startTo (asked n) (now (a .room)))
     (m .mapping-of .ensures) in (
       c .put-answer .ensures ∙ ap placesOf (s .answer .values ∙ ap (λ (o : Outcome). answerValues (o .answer)) e),
       s .bytes ∙ ap (λ (o : Outcome). o .bytes) e,

@@ -4,8 +4,7 @@ use mathlib.Core.Path.{_≡_, ap, _∙_}
 use Prim.Native.Nat.{ℕ}
 use denote.Ref.{now}
 use Rattle.tree.proofs.Numbers.{promised-as}
-use Rattle.tree.specs.Calls.{addTo}
-use Rattle.tree.specs.Held.{New}
+use Rattle.tree.specs.Calls.{New, objectFor, addTo}
 use Rattle.script.specs.Record.{nameIn, nameEnd, namesEnd, listIn, parentNamed}
 use Rattle.script.proofs.Tables.{name-by, list-by, new-by}
 use Rattle.script.proofs.records.add.Statement.{statement}
@@ -93,7 +92,7 @@ returns c =
     (name-by t _ 20 _ (owner .before .byte-in2 .ensures) (owner .part-of .ensures))
     (name-by t _ _ _ (group .before .byte-in3 .ensures) (group .part-of2 .ensures) ∙ ap (λ (x : ℕ). nameIn x t) g)
     (list-by t _ _ _ (sizes .half-in .ensures) (list .part-of3 .ensures) ∙ ap (λ (x : ℕ). listIn x t) l) in
-    promised-as (ap (λ (n : New). addTo n r) new) (c .before .before .add .ensures)
+    promised-as (ap (λ (n : New). addTo (objectFor n) r) new) (c .before .before .add .ensures)
 
 pub add-spec : {M : Type 1} → statement M
 add-spec =
