@@ -114,7 +114,7 @@ pub copy-length : (flags : ℕ) (m : Mapping) (owner group t : List ℕ)
     → length (copyOf flags m owner group t)
     ≡ 8 + (length (middleOf t) + (length (inPlace (placeholderOf (sidOf t)) (sidOf t) owner group) + length (tailOf t)))
 unfolding copyOf
-copy-length flags m owner group t = length-entry (kindOf t) flags _ (middleOf t) _ (tailOf t)
+copy-length flags m owner group t = length-entry _
 
 cond-long : (b : Bool) (x y : List ℕ) (n : ℕ) → length x ≤ n → length y ≤ n → length (cond b x y) ≤ n
 cond-long true x y n h k = h

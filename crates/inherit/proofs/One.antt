@@ -5,7 +5,7 @@ use mathlib.Core.List.{List, [], _∷_, append-nil, flatten}
 use Prim.Native.Nat.{ℕ, _+_, _-_, _≤_}
 use native.Mathlib.Omega.{arith}
 use lib.ListN.{length}
-use Rattle.list.specs.Entry.{access, objectKind, kindOf, flagsOf, maskOf, middleOf, tailOf, entryBytes, fieldsOf}
+use Rattle.list.specs.Entry.{access, objectKind, flagsOf, middleOf, tailOf, EntryParts, entryBytes, fieldsOf}
 use Rattle.list.specs.Good.{Sound}
 use Rattle.list.specs.declared.entries.Entry.{Entry}
 use Rattle.list.proofs.Remade.{bounds, kind-entry}
@@ -31,6 +31,18 @@ pub emit-few : (g : Given) (p : Pass) (t : List ℕ) → length (emitOf g p t) �
 unfolding emitOf
 emit-few g p t = cond-few (takesBy g p t) _
 
+-- the parts of an entry's copy, in the fields e
+abbrev pub copyParts : Given → Pass → List ℕ → Entry → EntryParts
+copyParts g p t e =
+    record {
+      kind = e .kind;
+      flags = flagsBy p (e .flags);
+      mask = mapped (g .mapping) (e .mask);
+      middle = middleOf t;
+      sid = putIn t (g .owner) (g .group);
+      tail = tailOf t;
+    }
+
 module _ (rev : ℕ) (t : List ℕ) (s : Sound access rev t) (e : Entry) (q : e ≡ fieldsOf t) where
   pub lies : Lies t (e .sid) (e .sid + e .«sid_len») (e .size)
   lies =
@@ -55,15 +67,9 @@ module _ (rev : ℕ) (t : List ℕ) (s : Sound access rev t) (e : Entry) (q : e 
       one : emitOf g p t ≡ copyOf (flagsBy p (flagsOf t)) (g .mapping) (g .owner) (g .group) t ∷ []
       one = emit-yes g p t h (omega (arith, s .four))
 
-      pub writes-one : flatten (emitOf g p t)
-          ≡ entryBytes (e .kind) (flagsBy p (e .flags)) (mapped (g .mapping) (e .mask)) (middleOf t) (putIn t (g .owner) (g .group)) (tailOf t)
+      pub writes-one : flatten (emitOf g p t) ≡ entryBytes (copyParts g p t e)
       unfolding flatten copyOf
-      writes-one =
-          ap flatten one
-          ∙ append-nil _
-          ∙ ap
-          (λ (x : Entry). entryBytes (x .kind) (flagsBy p (x .flags)) (mapped (g .mapping) (x .mask)) (middleOf t) (putIn t (g .owner) (g .group)) (tailOf t))
-          (sym q)
+      writes-one = ap flatten one ∙ append-nil _ ∙ ap (λ (x : Entry). entryBytes (copyParts g p t x)) (sym q)
 
       pub length-one : length (flatten (emitOf g p t)) ≡ e .sid + length (putIn t (g .owner) (g .group)) + (e .size - (e .sid + e .«sid_len»))
       unfolding flatten
@@ -78,8 +84,7 @@ module _ (rev : ℕ) (t : List ℕ) (s : Sound access rev t) (e : Entry) (q : e 
       object-one =
           ap anyObject one
           ∙ or-false _
-          ∙ ap objectKind
-          (kind-entry (kindOf t) (flagsBy p (flagsOf t)) (mapped (g .mapping) (maskOf t)) (middleOf t) (putIn t (g .owner) (g .group)) (tailOf t))
+          ∙ ap objectKind (kind-entry (copyParts g p t (fieldsOf t)))
           ∙ ap (λ (x : Entry). objectKind (x .kind)) (sym q)
 
       pub gives-one : measureOf (emitOf g p t)

@@ -25,8 +25,15 @@ mapped m mask =
 -- an entry as the last step leaves it
 unfoldable pub resolved : Given → List ℕ → List ℕ
 resolved g e =
-    entryBytes (kindOf e) (flagsOf e) (mapped (g .mapping) (maskOf e)) (middleOf e)
-    (inPlace (placeholderOf (sidOf e)) (sidOf e) (g .owner) (g .group)) (tailOf e)
+    entryBytes
+    (record {
+      kind = kindOf e;
+      flags = flagsOf e;
+      mask = mapped (g .mapping) (maskOf e);
+      middle = middleOf e;
+      sid = inPlace (placeholderOf (sidOf e)) (sidOf e) (g .owner) (g .group);
+      tail = tailOf e;
+    })
 
 -- the filter: all, or ID only
 abbrev pub passesFilter : Bool → List ℕ → Bool

@@ -74,7 +74,7 @@ pub(crate) fn put_entry(
 ) -> usize
     requires { ⌜ 8 + (length (now middle) + (length (now sid) + length (now tail))) ≤ length (now out) ⌝ }
     ensures { λ r. ⌜ (r ≡ 8 + (length (now (middle .entry)) + (length (now (sid .entry)) + length (now (tail .entry)))))
-        × (now (out .exit) ≡ front (entryBytes kind flags mask (now (middle .entry)) (now (sid .entry)) (now (tail .entry))) (now (out .entry))) ⌝ }
+        × (now (out .exit) ≡ front (entryBytes (record { kind = kind; flags = flags; mask = mask; middle = now (middle .entry); sid = now (sid .entry); tail = now (tail .entry) })) (now (out .entry))) ⌝ }
 {
     let sid_at = 8 + middle.len();
     let tail_at = sid_at + sid.len();

@@ -100,7 +100,7 @@ fn put_copy<'a>(
 ) -> usize
     requires { ⌜ Lies (now t) sid end size × (sid + length (putIn (now t) (now owner) (now group)) + (size - end) ≤ length (now out)) ⌝ }
     ensures { λ r. ⌜ (r ≡ sid + length (putIn (now (t .entry)) (now (owner .entry)) (now (group .entry))) + (size - end))
-        × (now (out .exit) ≡ front (entryBytes kind flags mask (middleOf (now (t .entry))) (putIn (now (t .entry)) (now (owner .entry)) (now (group .entry))) (tailOf (now (t .entry)))) (now (out .entry))) ⌝ }
+        × (now (out .exit) ≡ front (entryBytes (record { kind = kind; flags = flags; mask = mask; middle = middleOf (now (t .entry)); sid = putIn (now (t .entry)) (now (owner .entry)) (now (group .entry)); tail = tailOf (now (t .entry)) })) (now (out .entry))) ⌝ }
 {
     let put_in = in_place(&t[sid..end], owner, group);
     put_entry(out, kind, flags, mask, &t[8..sid], put_in, &t[end..size])

@@ -10,7 +10,7 @@ use lib.Dec.{eqb}
 use borrow.Author.Tests.{eqb-true, eq-eqb, le-leb}
 use Rattle.list.specs.Bytes.{le, spell, guidAt}
 use Rattle.list.specs.Identity.{sidLen}
-use Rattle.list.specs.Entry.{Family, flagsOk, tailOk, entryBytes, kindOf, sizeOf, flagsOf, maskOf, objectKind, headOf, wordAfter, wordOf}
+use Rattle.list.specs.Entry.{Family, flagsOk, tailOk, EntryParts, entryBytes, kindOf, sizeOf, flagsOf, maskOf, objectKind, headOf, wordAfter, wordOf}
 use Rattle.list.specs.Entry.{guidsOf, sidAt, sidLenOf, sidEnd, middleOf, sidOf, tailOf}
 use Rattle.list.specs.Good.{Sound, Whole, Bounds}
 use Rattle.list.proofs.Little.{le-append, le-spell, length-spell}
@@ -163,27 +163,26 @@ pub typed-long : (f : Family) (rev : ℕ) (t : List ℕ) → Sound f rev t → o
 typed-long f rev t s o w = omega (arith, object-head (kindOf t) o, s .eight)
 
 -- bytes made of parts have these parts (the size and the mask where they fit their fields)
-module _ (kind flags mask : ℕ) (middle sid tail : List ℕ) where
-  pub length-entry : length (entryBytes kind flags mask middle sid tail) ≡ 8 + (length middle + (length sid + length tail))
+module _ (p : EntryParts) where
+  pub length-entry : length (entryBytes p) ≡ 8 + (length (p .middle) + (length (p .sid) + length (p .tail)))
   unfolding entryBytes spell
-  length-entry = omega (arith, length-append middle (sid ++ tail), length-append sid tail)
+  length-entry = omega (arith, length-append (p .middle) (p .sid ++ p .tail), length-append (p .sid) (p .tail))
 
-  pub kind-entry : kindOf (entryBytes kind flags mask middle sid tail) ≡ kind
+  pub kind-entry : kindOf (entryBytes p) ≡ p .kind
   unfolding entryBytes
   kind-entry = refl
 
-  pub flags-entry : flagsOf (entryBytes kind flags mask middle sid tail) ≡ flags
+  pub flags-entry : flagsOf (entryBytes p) ≡ p .flags
   unfolding entryBytes
   flags-entry = refl
 
-  pub size-entry : 8 + (length middle + (length sid + length tail)) < 65536
-      → sizeOf (entryBytes kind flags mask middle sid tail) ≡ length (entryBytes kind flags mask middle sid tail)
+  pub size-entry : 8 + (length (p .middle) + (length (p .sid) + length (p .tail))) < 65536 → sizeOf (entryBytes p) ≡ length (entryBytes p)
   unfolding entryBytes
   size-entry h =
-      let n = 8 + (length middle + (length sid + length tail)) in
-      le-append 2 (spell 2 n) (spell 4 mask ++ (middle ++ (sid ++ tail))) (omega (arith, length-spell 2 n)) ∙ le-spell 2 n h ∙ sym length-entry
+      let n = 8 + (length (p .middle) + (length (p .sid) + length (p .tail))) in
+      le-append 2 (spell 2 n) (spell 4 (p .mask) ++ (p .middle ++ (p .sid ++ p .tail))) (omega (arith, length-spell 2 n)) ∙ le-spell 2 n h ∙ sym length-entry
 
-  pub rest-entry : drop 8 (entryBytes kind flags mask middle sid tail) ≡ middle ++ (sid ++ tail)
+  pub rest-entry : drop 8 (entryBytes p) ≡ p .middle ++ (p .sid ++ p .tail)
   unfolding entryBytes spell
   rest-entry = refl
 
@@ -196,30 +195,33 @@ word-same head a b h = by (eqb head 12) refl
     by true e = h (eqb-true head 12 e)
     by false e = refl
 
--- e with other flags, another mask and another SID
+-- e with other flags, another mask and another SID: its parts, and its bytes
+abbrev pub remadeParts : List ℕ → ℕ → ℕ → List ℕ → EntryParts
+remadeParts e flags mask sid = record { kind = kindOf e; flags = flags; mask = mask; middle = middleOf e; sid = sid; tail = tailOf e }
+
 abbrev pub remake : List ℕ → ℕ → ℕ → List ℕ → List ℕ
-remake e flags mask sid = entryBytes (kindOf e) flags mask (middleOf e) sid (tailOf e)
+remake e flags mask sid = entryBytes (remadeParts e flags mask sid)
 
 -- a whole entry so remade is whole again, and the rest of it is as it was
 module _ (f : Family) (rev : ℕ) (e : List ℕ) (w : Whole f rev e) (flags mask : ℕ) (ok : flagsOk f flags ≡ true) (sid : List ℕ) (one : OneSid sid) where
   pub remade-kind : kindOf (remake e flags mask sid) ≡ kindOf e
-  remade-kind = kind-entry (kindOf e) flags mask (middleOf e) sid (tailOf e)
+  remade-kind = kind-entry (remadeParts e flags mask sid)
 
   pub remade-flags : flagsOf (remake e flags mask sid) ≡ flags
-  remade-flags = flags-entry (kindOf e) flags mask (middleOf e) sid (tailOf e)
+  remade-flags = flags-entry (remadeParts e flags mask sid)
 
   pub remade-length : length (remake e flags mask sid) ≡ sidAt e + length sid
   remade-length =
       let b = bounds f rev e (w .sound) in
-      omega (arith, length-entry (kindOf e) flags mask (middleOf e) sid (tailOf e), ends-exact f rev e (w .sound))
+      omega (arith, length-entry (remadeParts e flags mask sid), ends-exact f rev e (w .sound))
 
   pub remade-size : sizeOf (remake e flags mask sid) ≡ length (remake e flags mask sid)
   remade-size =
       let b = bounds f rev e (w .sound) in
-      size-entry (kindOf e) flags mask (middleOf e) sid (tailOf e) (omega (arith, ends-exact f rev e (w .sound), one .exact, sid-length sid (one .some)))
+      size-entry (remadeParts e flags mask sid) (omega (arith, ends-exact f rev e (w .sound), one .exact, sid-length sid (one .some)))
 
   rest : drop 8 (remake e flags mask sid) ≡ middleOf e ++ (sid ++ tailOf e)
-  rest = rest-entry (kindOf e) flags mask (middleOf e) sid (tailOf e)
+  rest = rest-entry (remadeParts e flags mask sid)
 
   pub remade-word : wordOf (remake e flags mask sid) ≡ wordOf e
   remade-word =

@@ -83,11 +83,21 @@ sidOf t = take (sidLenOf t) (drop (sidAt t) t)
 abbrev pub tailOf : List ℕ → List ℕ
 tailOf t = take (sizeOf t - sidEnd t) (drop (sidEnd t) t)
 
+-- what an entry is made of: type, flags, mask, what stands between the mask and the SID, the SID, and what follows it
+pub record EntryParts : Type 0 where
+  pub kind : ℕ
+  pub flags : ℕ
+  pub mask : ℕ
+  pub middle : List ℕ
+  pub sid : List ℕ
+  pub tail : List ℕ
+
 -- the bytes of an entry made of its parts: type, flags, the size, which is exactly its parts, mask, and those three
-unfoldable pub entryBytes : ℕ → ℕ → ℕ → List ℕ → List ℕ → List ℕ → List ℕ
-entryBytes kind flags mask middle sid tail =
-    (kind ∷ flags ∷ [])
-    ++ (spell 2 (8 + (length middle + (length sid + length tail))) ++ (spell 4 mask ++ (middle ++ (sid ++ tail))))
+unfoldable pub entryBytes : EntryParts → List ℕ
+entryBytes p =
+    (p .kind ∷ p .flags ∷ [])
+    ++ (spell 2 (8 + (length (p .middle) + (length (p .sid) + length (p .tail))))
+    ++ (spell 4 (p .mask) ++ (p .middle ++ (p .sid ++ p .tail))))
 
 -- what may follow the SID in an entry of type k: nothing
 unfoldable pub tailOk : ℕ → ℕ → ℕ → Bool

@@ -51,7 +51,15 @@ putIn t owner group = inPlace (placeholderOf (sidOf t)) (sidOf t) owner group
 -- a copy of the entry that t begins with, with its flags, as the last step leaves it
 unfoldable pub copyOf : ℕ → Mapping → List ℕ → List ℕ → List ℕ → List ℕ
 copyOf flags mapping owner group t =
-    entryBytes (kindOf t) flags (mapped mapping (maskOf t)) (middleOf t) (putIn t owner group) (tailOf t)
+    entryBytes
+    (record {
+      kind = kindOf t;
+      flags = flags;
+      mask = mapped mapping (maskOf t);
+      middle = middleOf t;
+      sid = putIn t owner group;
+      tail = tailOf t;
+    })
 
 -- one entry: none, or the one that is written
 unfoldable pub emitOf : Given → Pass → List ℕ → List (List ℕ)

@@ -21,7 +21,7 @@ regroup a b c d e = simp append-assoc
 
 whole : (kind flags mask : ℕ) (mid sid tail : List ℕ)
     → (kind ∷ flags ∷ []) ++ (spell 2 (8 + length mid + length sid + length tail) ++ spell 4 mask) ++ mid ++ sid ++ tail
-    ≡ entryBytes kind flags mask mid sid tail
+    ≡ entryBytes (record { kind = kind; flags = flags; mask = mask; middle = mid; sid = sid; tail = tail })
 unfolding entryBytes
 whole kind flags mask mid sid tail =
     let e : 8 + length mid + length sid + length tail ≡ 8 + (length mid + (length sid + length tail)) = omega arith in

@@ -1,13 +1,12 @@
 -- The parts as the code cuts them, put together. Assumes nothing.
 use native.Mathlib.Omega.{arith}
 use borrow.Author.Needs.{needs}
-use mathlib.Core.Path.{_≡_, ap, ap₂, _∙_}
+use mathlib.Core.Path.{_≡_, ap, _∙_}
 use mathlib.Core.List.{List}
 use Prim.Native.Nat.{ℕ, _+_, _-_}
 use denote.Ref.{now}
 use lib.ListN.{length, take, drop}
-use Rattle.list.specs.Bytes.{front}
-use Rattle.list.specs.Entry.{middleOf, tailOf, entryBytes}
+use Rattle.list.specs.Entry.{middleOf, tailOf}
 use Rattle.inherit.specs.Inner.Emit.{putIn}
 use Rattle.inherit.proofs.Lying.{middle-part, tail-part, put-in-is, copy-size}
 use Rattle.inherit.proofs.passes.put_copy.Statement.{statement}
@@ -83,14 +82,11 @@ same-length c = search needs
 returns : tie.Need-returns
 returns c =
     let k = c .before .before .before .before .before .before in
-    let a = start k .args in
     let m = middle-is k in
     let i = sid-is k in
     let z = tail-is k in
     let w = c .before .before .put-entry .ensures in
-    let e = ap₂ (λ (x y : List ℕ). entryBytes (a .kind) (a .flags) (a .mask) x y (take (a .size - a .end) (drop (a .end) (bytes k)))) m i
-    ∙ ap (λ (x : List ℕ). entryBytes (a .kind) (a .flags) (a .mask) (middleOf (bytes k)) (sid k) x) z in
-    (omega (arith, w .0, size-is k, ap length m, ap length i, ap length z), w .1 ∙ ap (λ (x : List ℕ). front x (now (a .out))) e)
+    (omega (arith, w .0, size-is k, ap length m, ap length i, ap length z), cc (w .1))
 
 pub put-copy-spec : {M : Type 1} → statement M
 put-copy-spec =

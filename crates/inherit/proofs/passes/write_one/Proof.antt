@@ -1,7 +1,7 @@
 -- An entry that is taken or not, in the fields that `pick` found. Assumes nothing.
 use borrow.Author.Needs.{needs}
 use native.Mathlib.Omega.{arith}
-use mathlib.Core.Path.{_≡_, sym, ap, ap₂, _∙_}
+use mathlib.Core.Path.{_≡_, sym, ap, _∙_}
 use mathlib.Core.Bool.{true, false}
 use mathlib.Core.List.{List}
 use Prim.Native.Nat.{ℕ, _+_}
@@ -9,10 +9,9 @@ use borrow.Author.Tests.{not-true, not-false}
 use denote.Ref.{now}
 use lib.ListN.{length}
 use Rattle.list.specs.Bytes.{front}
-use Rattle.list.specs.Entry.{middleOf, tailOf, entryBytes}
 use Rattle.list.specs.declared.entries.Entry.{Entry}
 use Rattle.inherit.specs.Asked.{Given}
-use Rattle.inherit.specs.Inner.Emit.{takesBy, givenBy, Lies, putIn}
+use Rattle.inherit.specs.Inner.Emit.{takesBy, givenBy, Lies}
 use Rattle.inherit.proofs.One.{lies, writes-none, length-one, writes-one}
 use Rattle.inherit.proofs.passes.write_one.Statement.{statement}
 use Rattle.inherit.proofs.passes.write_one.Tie as tie
@@ -84,10 +83,9 @@ returns-2 c =
     let w = c .before .before .put-copy .ensures in
     let n = length-one (a .rev) (bytes k) (s .pre .0 .0) (fields k) q (given k) (a .pass) (taken e) in
     let o = writes-one (a .rev) (bytes k) (s .pre .0 .0) (fields k) q (given k) (a .pass) (taken e) in
-    let sid = putIn (bytes k) (now (a .owner)) (now (a .group)) in
-    let f = ap₂ (λ (f m : ℕ). entryBytes (fields k .kind) f m (middleOf (bytes k)) sid (tailOf (bytes k)))
-    (c .before .before .before .before .before .before .new-flags .ensures) (c .before .before .before .before .before .mapped .ensures) in
-    (ap (λ (x : Entry). x .size) q, w .0 ∙ sym n, w .1 ∙ ap (λ (x : List ℕ). front x (now (a .out))) (f ∙ sym o))
+    let m = c .before .before .before .before .before in
+    let z = rw (m .before .new-flags .ensures, m .mapped .ensures) at (w .1) in
+    (ap (λ (x : Entry). x .size) q, w .0 ∙ sym n, z ∙ ap (λ (x : List ℕ). front x (now (a .out))) (sym o))
 
 pub write-one-spec : {M : Type 1} → statement M
 write-one-spec =
