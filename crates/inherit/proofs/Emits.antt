@@ -16,7 +16,6 @@ use Rattle.list.proofs.Remade.{bounds, set-flags, set-kind, set-mask, set-middl
 use Rattle.list.proofs.Remade.{cut-same, cut-middle, cut-sid, cut-tail, cut-length, cut-guid}
 use Rattle.inherit.specs.declared.copies.Pass.{Pass}
 use Rattle.inherit.specs.declared.copies.Pass.the-variants.{First, Second, Own, All}
-use Rattle.inherit.specs.declared.Mapping.{Mapping}
 use Rattle.inherit.specs.Asked.{Given, has}
 use Rattle.inherit.specs.Copies.{among, typeApplies, takesFirst, takesSecond}
 use Rattle.inherit.specs.Last.{inPlace, resolved}
@@ -25,13 +24,13 @@ use Rattle.inherit.specs.Inner.Emit.{takesBy, flagsBy, copyOf, emitOf, e
 use Rattle.inherit.proofs.Flags.{odd}
 
 -- the last step over an entry with new flags is a copy with these flags
-pub resolved-set : (g : Given) (t : List ℕ) (v : ℕ) → 1 < length t → resolved g (set t 1 v) ≡ copyOf v (g .mapping) (g .owner) (g .group) t
+pub resolved-set : (g : Given) (t : List ℕ) (v : ℕ) → 1 < length t → resolved g (set t 1 v) ≡ copyOf g v t
 unfolding resolved copyOf
 resolved-set g t v h = rw (set-tail t v, set-sid t v, set-middle t v, set-mask t v, set-flags t v h, set-kind t v)
 
 -- an entry that is taken gives one copy, another none
 pub emit-yes : (g : Given) (p : Pass) (t : List ℕ) → takesBy g p t ≡ true → 1 < length t
-    → emitOf g p t ≡ copyOf (flagsBy p (flagsOf t)) (g .mapping) (g .owner) (g .group) t ∷ []
+    → emitOf g p t ≡ copyOf g (flagsBy p (flagsOf t)) t ∷ []
 unfolding emitOf
 emit-yes g p t h l = rw (h, resolved-set g t (flagsBy p (flagsOf t)) l)
 
@@ -62,9 +61,9 @@ module _ (g : Given) (rev : ℕ) (t : List ℕ) (s : Sound access rev t) where
   takes-in Own = rw (cut-same access rev t s .flags)
   takes-in All = refl
 
-  copy-in : (v : ℕ) (m : Mapping) (owner group : List ℕ) → copyOf v m owner group (take (sizeOf t) t) ≡ copyOf v m owner group t
+  copy-in : (v : ℕ) → copyOf g v (take (sizeOf t) t) ≡ copyOf g v t
   unfolding copyOf
-  copy-in v m owner group =
+  copy-in v =
       let c = cut-same access rev t s in
       rw (cut-tail access rev t s, cut-sid access rev t s, cut-middle access rev t s, c .mask, c .kind)
 
@@ -110,11 +109,11 @@ pub measure-append : (xs ys : List (List ℕ)) → measureOf (xs ++ ys) ≡ both
 measure-append xs ys = rw (flatten-append xs ys, length-append (flatten xs) (flatten ys), length-append xs ys, object-append xs ys)
 
 -- how long a copy is
-pub copy-length : (flags : ℕ) (m : Mapping) (owner group t : List ℕ)
-    → length (copyOf flags m owner group t)
-    ≡ 8 + (length (middleOf t) + (length (inPlace (placeholderOf (sidOf t)) (sidOf t) owner group) + length (tailOf t)))
+pub copy-length : (g : Given) (flags : ℕ) (t : List ℕ)
+    → length (copyOf g flags t)
+    ≡ 8 + (length (middleOf t) + (length (inPlace (placeholderOf (sidOf t)) (sidOf t) (g .owner) (g .group)) + length (tailOf t)))
 unfolding copyOf
-copy-length flags m owner group t = length-entry _
+copy-length g flags t = length-entry _
 
 cond-long : (b : Bool) (x y : List ℕ) (n : ℕ) → length x ≤ n → length y ≤ n → length (cond b x y) ≤ n
 cond-long true x y n h k = h
@@ -134,8 +133,8 @@ emit-le g p rev t s o r = by (takesBy g p t) refl
     by true e =
         let b = bounds access rev t s in
         let m = sid-most (drop (sidAt t) t) in
-        let c = copyOf (flagsBy p (flagsOf t)) (g .mapping) (g .owner) (g .group) t in
+        let c = copyOf g (flagsBy p (flagsOf t)) t in
         let n = in-place-le (placeholderOf (sidOf t)) (sidOf t) (g .owner) (g .group) o r (omega (arith, b .sid-length)) in
-        let l = copy-length (flagsBy p (flagsOf t)) (g .mapping) (g .owner) (g .group) t in
+        let l = copy-length g (flagsBy p (flagsOf t)) t in
         rw (emit-yes g p t e (omega (arith, s .four)), append-nil) (omega arith)
     by false e = rw (emit-no g p t e) (omega arith)

@@ -64,7 +64,7 @@ module _ (rev : ℕ) (t : List ℕ) (s : Sound access rev t) (e : Entry) (q : e 
     writes-none h = rw (emit-no g p t h)
 
     module _ (h : takesBy g p t ≡ true) where
-      one : emitOf g p t ≡ copyOf (flagsBy p (flagsOf t)) (g .mapping) (g .owner) (g .group) t ∷ []
+      one : emitOf g p t ≡ copyOf g (flagsBy p (flagsOf t)) t ∷ []
       one = emit-yes g p t h (omega (arith, s .four))
 
       pub writes-one : flatten (emitOf g p t) ≡ entryBytes (copyParts g p t e)
@@ -75,8 +75,8 @@ module _ (rev : ℕ) (t : List ℕ) (s : Sound access rev t) (e : Entry) (q : e 
       unfolding flatten
       length-one =
           ap (λ (l : List (List ℕ)). length (flatten l)) one
-          ∙ ap (λ (l : List ℕ). length l) (append-nil (copyOf (flagsBy p (flagsOf t)) (g .mapping) (g .owner) (g .group) t))
-          ∙ copy-length (flagsBy p (flagsOf t)) (g .mapping) (g .owner) (g .group) t
+          ∙ ap (λ (l : List ℕ). length l) (append-nil (copyOf g (flagsBy p (flagsOf t)) t))
+          ∙ copy-length g (flagsBy p (flagsOf t)) t
           ∙ copy-size t (e .sid) (e .sid + e .«sid_len») (e .size) lies (length (putIn t (g .owner) (g .group)))
 
       object-one : anyObject (emitOf g p t) ≡ objectKind (e .kind)

@@ -51,13 +51,13 @@ module _ (g : Given) (o : isSid (g .owner) ≡ true) (r : isSid (g .group) ≡ t
   one : OneSid (inPlace (placeholderOf (sidOf e)) (sidOf e) (g .owner) (g .group))
   one = in-place-one (placeholderOf (sidOf e)) (sidOf e) (g .owner) (g .group) (one-own access rev e (w .sound)) (one-sid (g .owner) o) (one-sid (g .group) r)
 
-  copy-whole : Whole access rev (copyOf (flagsBy p (flagsOf e)) (g .mapping) (g .owner) (g .group) e)
+  copy-whole : Whole access rev (copyOf g (flagsBy p (flagsOf e)) e)
   unfolding copyOf
   copy-whole =
       remade-whole access rev e w (flagsBy p (flagsOf e)) (mapped (g .mapping) (maskOf e))
       (flags-ok _ (by-le p (flagsOf e) (flags-le (flagsOf e) (w .sound .flags)))) _ one
 
-  copy-sid : sidOf (copyOf (flagsBy p (flagsOf e)) (g .mapping) (g .owner) (g .group) e)
+  copy-sid : sidOf (copyOf g (flagsBy p (flagsOf e)) e)
       ≡ inPlace (placeholderOf (sidOf e)) (sidOf e) (g .owner) (g .group)
   unfolding copyOf
   copy-sid =
@@ -65,7 +65,7 @@ module _ (g : Given) (o : isSid (g .owner) ≡ true) (r : isSid (g .group) ≡ t
       (flags-ok _ (by-le p (flagsOf e) (flags-le (flagsOf e) (w .sound .flags)))) _ one
 
   -- what holds of the copy holds of what the entry gives
-  every-given : (P : List ℕ → Type 0) → P (copyOf (flagsBy p (flagsOf e)) (g .mapping) (g .owner) (g .group) e) → Every P (emitOf g p e)
+  every-given : (P : List ℕ → Type 0) → P (copyOf g (flagsBy p (flagsOf e)) e) → Every P (emitOf g p e)
   every-given P h = by (takesBy g p e) refl
     where
       by : (b : Bool) → takesBy g p e ≡ b → Every P (emitOf g p e)

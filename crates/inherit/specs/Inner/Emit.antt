@@ -12,7 +12,6 @@ use Rattle.list.specs.List.{cut}
 use Rattle.inherit.specs.declared.copies.Pass.{Pass}
 use Rattle.inherit.specs.declared.copies.Pass.the-variants.{First, Second, Own, All}
 use Rattle.inherit.specs.declared.copies.Terms.{Terms}
-use Rattle.inherit.specs.declared.Mapping.{Mapping}
 use Rattle.inherit.specs.declared.passes.Measure.{Measure}
 use Rattle.inherit.specs.Asked.{Given}
 use Rattle.inherit.specs.Copies.{keptFlags, takesFirst, takesSecond, takesOwn}
@@ -49,15 +48,15 @@ abbrev pub putIn : List ℕ → List ℕ → List ℕ → List ℕ
 putIn t owner group = inPlace (placeholderOf (sidOf t)) (sidOf t) owner group
 
 -- a copy of the entry that t begins with, with its flags, as the last step leaves it
-unfoldable pub copyOf : ℕ → Mapping → List ℕ → List ℕ → List ℕ → List ℕ
-copyOf flags mapping owner group t =
+unfoldable pub copyOf : Given → ℕ → List ℕ → List ℕ
+copyOf g flags t =
     entryBytes
     (record {
       kind = kindOf t;
       flags = flags;
-      mask = mapped mapping (maskOf t);
+      mask = mapped (g .mapping) (maskOf t);
       middle = middleOf t;
-      sid = putIn t owner group;
+      sid = putIn t (g .owner) (g .group);
       tail = tailOf t;
     })
 
