@@ -18,7 +18,8 @@ use Rattle.inherit.specs.declared.Mapping.{Mapping}
 use Rattle.inherit.specs.declared.branch.Plan.{Plan}
 use Rattle.inherit.specs.declared.copies.Pass.{Pass}
 use Rattle.inherit.specs.declared.copies.Pass.the-variants.{First, Second, Own, All}
-use Rattle.inherit.specs.Asked.{Asked, Given, MaybeList, givenIn, given, lent, entriesIf, has}
+use Rattle.inherit.specs.Inner.Source.{given}
+use Rattle.inherit.specs.Asked.{Asked, Given, MaybeList, givenIn, lent, entriesIf, has}
 use Rattle.inherit.specs.Copies.{anyHeritable, pass, keptFlags, takesFirst, takesSecond, firstPart, secondPart, fromParent, ownEntries, fromCreator}
 use Rattle.inherit.specs.Last.{resolved, passesFilter, lastOf, lastStep}
 use Rattle.inherit.specs.Branch.{Result, holds, inheritedBit, withCreator, fromDefault, branch, resultOf}

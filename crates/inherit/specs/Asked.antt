@@ -22,11 +22,6 @@ MaybeList = Option (List ℕ)
 abbrev pub lent : Bool → List ℕ → MaybeList
 lent given s = cond given (some s) none
 
--- a list is present
-abbrev pub given : MaybeList → Bool
-given none = false
-given (some s) = true
-
 -- an absent list has no entries
 unfoldable pub entriesIf : MaybeList → List (List ℕ)
 entriesIf none = []

@@ -12,7 +12,8 @@ use Rattle.list.specs.Bytes.{le, spell, sameBytes, guidAt, part}
 use Rattle.list.specs.Identity.{sidLen, isSid, placeholderOf, identityOf}
 use Rattle.list.specs.Entry.{plainOf, objectOf, objectKind, kindOk, flagsOk, headOf, wordAfter, entryBytes, tailOk, entryOf}
 use Rattle.list.specs.List.{revOk, headerOk, cut, entriesOf, headBytes, render, onGood, walkOf, finish, checkOf}
-use Rattle.inherit.specs.Asked.{Asked, MaybeList, lent, given, entriesIf, typesOk, typesOf}
+use Rattle.inherit.specs.Asked.{Asked, MaybeList, lent, entriesIf, typesOk, typesOf}
+use Rattle.inherit.specs.Inner.Source.{given}
 use Rattle.inherit.specs.Copies.{anyHeritable, among, typeApplies, pass, keptFlags, takesFirst, firstPart, takesSecond, secondPart, fromParent, ownEntries, fromCreator}
 use Rattle.inherit.specs.Last.{inPlace, mapped, resolved, lastOf, lastStep}
 use Rattle.inherit.specs.Branch.{inheritedBit, withCreator, fromDefault, branch, resultOf}
@@ -23,7 +24,8 @@ use Rattle.tree.specs.General.{bind}
 use Rattle.tree.specs.Held.{bytesIn, idIn, idFor, slotFor, blockFor}
 use Rattle.tree.specs.Room.{roomFor, roomOf, settingsFor}
 use Rattle.tree.specs.Formed.{formed, countsOk}
-use Rattle.tree.specs.Work.{settingsAsked, computed}
+use Rattle.tree.specs.Work.{computed}
+use Rattle.tree.specs.Inner.Asking.{settingsAsked}
 use Rattle.tree.specs.Calls.{listBytes}
 use Rattle.tree.proofs.Replay.{fromRoot, gather, work}
 

@@ -18,7 +18,8 @@ use Rattle.inherit.specs.declared.Computed.{Computed}
 use Rattle.inherit.specs.declared.Computed.the-variants.{Present, Absent, Refused}
 use Rattle.list.specs.Entry.{access}
 use Rattle.list.specs.Answer.{Values, done, refused}
-use Rattle.inherit.specs.Asked.{Asked, MaybeList, given, lent}
+use Rattle.inherit.specs.Asked.{Asked, MaybeList, lent}
+use Rattle.inherit.specs.Inner.Source.{given}
 use Rattle.inherit.specs.Branch.{resultOf}
 use Rattle.inherit.specs.Compute.{computeOf, bytesFor, written, outOf, computedValues, isRefusal, askedBy, Answers}
 use Rattle.inherit.proofs.Planned.{given-lent}
@@ -26,7 +27,8 @@ use Rattle.inherit.proofs.Theorems.{present-fits}
 use Rattle.tree.specs.General.{bind, isSome, orElse}
 use Rattle.tree.specs.Held.{hasList, bytesIn, held, slotFor, kindByte, markByte, typeOf, ownerOf, groupOf, ownSlot, ownList, parentByteIn}
 use Rattle.tree.specs.Room.{slotAt, settings, ruleOf, defaultSlot, defaultOf, mappingOf, ownData, slot}
-use Rattle.tree.specs.Work.{askedIn, settingsAsked, computed, aboveIn, laid, rework, reworked}
+use Rattle.tree.specs.Inner.Asking.{settingsAsked}
+use Rattle.tree.specs.Work.{askedIn, computed, aboveIn, laid, rework, reworked}
 
 -- the settings as the code finds them in slots and own data
 pub settings-found : (e p b : List ℕ) (x y z k m : Bool) → x ≡ hasList p → y ≡ hasList (ownSlot b) → z ≡ hasList (defaultSlot e) → k ≡ eqb (kindByte b) 1

@@ -7,8 +7,7 @@ use lib.Dec.{eqb, ltb}
 use Rattle.list.specs.Bytes.{putAt}
 use Rattle.list.specs.Entry.{access}
 use Rattle.list.specs.Answer.{Values}
-use Rattle.inherit.specs.declared.Settings.{Settings}
-use Rattle.inherit.specs.Asked.{Asked, MaybeList, given, lent}
+use Rattle.inherit.specs.Asked.{Asked, MaybeList, lent}
 use Rattle.inherit.specs.Branch.{resultOf}
 use Rattle.inherit.specs.Compute.{computeOf, bytesFor}
 use Rattle.tree.specs.General.{bind}
@@ -32,19 +31,6 @@ askedIn e p b =
       auto-inherit = true;
       default-descriptor = false;
       protected = eqb (markByte b) 1;
-    }
-
--- its settings, as the computation takes them
-abbrev pub settingsAsked : Asked → Settings
-settingsAsked a =
-    record {
-      parent = given (a .parent);
-      creator = given (a .creator);
-      default = given (a .default);
-      container = a .container;
-      auto = a .auto-inherit;
-      defaulted = a .default-descriptor;
-      protect = a .protected;
     }
 
 -- a list of at most 1,024 bytes, or an absent one; none where the computation refuses

@@ -1,6 +1,6 @@
 -- What the code finds of a list that may be absent: its refusal, or how its entries are read.
 use mathlib.Core.Path.{_≡_}
-use mathlib.Core.Bool.{true}
+use mathlib.Core.Bool.{Bool, true, false}
 use Prim.Native.Nat.{ℕ, _≤_}
 use mathlib.Core.List.{List}
 use mathlib.Core.Option.{none, some}
@@ -12,6 +12,11 @@ use Rattle.inherit.specs.declared.Settings.{Settings}
 use Rattle.inherit.specs.declared.tests.Source.{Source}
 use Rattle.inherit.specs.Asked.{MaybeList, lent, typesOk}
 use Rattle.inherit.specs.Compute.{ordinary}
+
+-- a list is present
+abbrev pub given : MaybeList → Bool
+given none = false
+given (some s) = true
 
 unfoldable pub sourceBy : Reading → ℕ → Source
 sourceBy (Done len n) rev = record { number = 0; offset = 0; rev = rev; count = n }
