@@ -16,7 +16,7 @@ use Rattle.inherit.specs.declared.Computed.the-variants.{Present, Absent
 use Rattle.inherit.specs.Asked.{Asked, MaybeList, lent, entriesIf, typesOk, typesOf}
 use Rattle.inherit.specs.Copies.{anyHeritable, among, typeApplies, pass, keptFlags, takesFirst, firstPart, takesSecond, secondPart, fromParent, ownEntries, fromCreator}
 use Rattle.inherit.specs.Last.{inPlace, mapped, resolved, lastOf, lastStep}
-use Rattle.inherit.specs.Branch.{inheritedBit, withCreator, fromDefault, branch, resultOf}
+use Rattle.inherit.specs.Branch.{holds, inheritedBit, withCreator, fromDefault, branch, resultOf}
 use Rattle.inherit.specs.Compute.{anyObject, withRoom, onReading, readable, ruleOk, computeOf, bytesFor, written, outOf, askedBy, computedValues, isRefusal}
 
 -- S-1-5-18
@@ -348,3 +348,11 @@ pub values-worked : (l n c k w x : ℕ)
     × ((computedValues (Refused k w x) ≡ record { number = k; list = w; offset = x; length = 0; present = 0; count = 0; control = 0 })
     × ((isRefusal (Present l n c) ≡ false) × ((isRefusal Absent ≡ false) × (isRefusal (Refused k w x) ≡ true)))))
 values-worked l n c k w x = (refl, (refl, (refl, (refl, (refl, refl)))))
+
+-- the longest result: 65,532 bytes, whatever room is lent; and the least room for it
+pub room-worked :
+    (withRoom 70000 (holds (replicate 65524 0 ∷ []) 0) ≡ done 65532 1 1 0)
+    × ((withRoom 70000 (holds (replicate 65525 0 ∷ []) 0) ≡ refused 8 0 0)
+    × ((withRoom 28 (holds (replicate 20 0 ∷ []) 0x0400) ≡ done 28 1 1 0x0400) × (withRoom 27 (holds (replicate 20 0 ∷ []) 0x0400) ≡ refused 8 0 0)))
+unfolding withRoom flatten
+room-worked = (refl, (refl, (refl, refl)))

@@ -23,7 +23,8 @@ use Rattle.tree.specs.Model.{Settings, shortIf, limitsOk}
 use Rattle.tree.specs.declared.Answer.{Answer}
 use Rattle.tree.specs.Held.{isDone, idIn, ownerOf, groupOf}
 use Rattle.tree.specs.Room.{objectLimit, objects, ownData, roomFor, roomOf, settingsFor, emptyRoom}
-use Rattle.tree.specs.Formed.{Head, placedIn, formed}
+use Rattle.tree.specs.Formed.{placedIn, formed}
+use Rattle.tree.specs.Inner.Heads.{Head}
 use Rattle.list.specs.Order.{need}
 use Rattle.tree.specs.Calls.{Outcome, refuse, onReadingTo, readableTo, onObject, toldAs, startOk, listBytes, copied, dataOf}
 use Rattle.tree.specs.Inner.Faults.{objectFault, addFault, faultBy, faultOf}

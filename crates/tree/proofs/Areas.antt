@@ -10,7 +10,7 @@ use Rattle.list.proofs.Places.{part-of-take}
 use Rattle.list.proofs.Writes.{length-front}
 use Rattle.tree.specs.General.{tab}
 use Rattle.tree.specs.Room.{objectLimit, stepLimit, ownAt, slotAt, stepsAt, roomFor, settings, ownData, slot, step, area}
-use Rattle.tree.specs.Formed.{Head}
+use Rattle.tree.specs.Inner.Heads.{Head}
 use Rattle.tree.proofs.Tab.{tab-ext}
 
 -- a room that is its own area

@@ -19,7 +19,8 @@ use Rattle.tree.specs.declared.Answer.the-variants.{Done, Refused}
 use Rattle.tree.specs.declared.tests.Fault.{Fault}
 use Rattle.tree.specs.Held.{held, parentIn, blockFor}
 use Rattle.tree.specs.Room.{objectLimit, objects, keptSteps, ownAt, ownData, slot, step, stepObject, area}
-use Rattle.tree.specs.Formed.{Head, standing, formed}
+use Rattle.tree.specs.Formed.{standing, formed}
+use Rattle.tree.specs.Inner.Heads.{Head}
 use Rattle.list.specs.Order.{need}
 use Rattle.tree.specs.Calls.{Promised, Outcome, refuse, readableTo, toldAs, stepGone, reworkedWith, changed, latest, stepTakenBack, changeEnds, undoEnds, changeTo, Put, Edit}
 use Rattle.tree.specs.Calls.{nobody, list, mark, owners, editAt, editBytes, editPut, addPut, tested, addTo, alterTo, undoTo}

@@ -19,7 +19,8 @@ use Rattle.tree.specs.declared.Answer.{Answer}
 use Rattle.tree.specs.declared.Answer.the-variants.{Done, Refused}
 use Rattle.tree.specs.General.{isSome, tab}
 use Rattle.tree.specs.Room.{objectLimit, stepLimit, objects, keptSteps, settings, ownData, step, stepTag, stepObject, stepData, area}
-use Rattle.tree.specs.Formed.{Head, stepsOk, formed}
+use Rattle.tree.specs.Formed.{stepsOk, formed}
+use Rattle.tree.specs.Inner.Heads.{Head}
 use Rattle.tree.specs.Calls.{Outcome, undoEnds, stepTakenBack, undoTo, answerValues, ChangeGiven}
 use Rattle.tree.proofs.History.{undo, settled, after, undone as undone-by}
 use Rattle.tree.proofs.Replay.{Blocks, Undo, back, undoIn, when, work, rules, shown, Tree}

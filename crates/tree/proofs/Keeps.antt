@@ -11,7 +11,8 @@ use Rattle.list.proofs.Tests.{both-true}
 use Rattle.tree.specs.General.{tab}
 use Rattle.tree.specs.Held.{held, blockOk, slotOk, parentOf}
 use Rattle.tree.specs.Room.{objectLimit, stepLimit, objects, keptSteps, roomFor, settings, ownData, slot, step, area}
-use Rattle.tree.specs.Formed.{Head, settingsOk, placedIn, objectOk, stepsOk, formed}
+use Rattle.tree.specs.Formed.{settingsOk, placedIn, objectOk, stepsOk, formed}
+use Rattle.tree.specs.Inner.Heads.{Head}
 use Rattle.tree.proofs.Replay.{work, undoIn, shown}
 use Rattle.tree.proofs.Tested.{head-says, head-said, formed-parts, formed-from}
 use Rattle.tree.proofs.Applied.{every-at, every-all, alike-same, steps-same, steps-shift}

@@ -32,6 +32,7 @@ pub mod Reaches
 pub mod Worked
 pub mod Demand3
 pub mod Trees
+pub mod Layouts
 pub mod Exact
 pub mod Answered
 pub mod Changing

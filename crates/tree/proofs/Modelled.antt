@@ -25,7 +25,8 @@ use Rattle.tree.specs.declared.Answer.the-variants.{Done, Refused}
 use Rattle.tree.specs.General.{isSome, rest, bind, tab}
 use Rattle.tree.specs.Held.{held, isDone, slotOk, parentIn, blockFor, kindByte}
 use Rattle.tree.specs.Room.{objectLimit, stepLimit, objects, keptSteps, roomFor, settings, ruleOf, defaultOf, defaultSlot, ownAt, ownData, slot, area}
-use Rattle.tree.specs.Formed.{Head, settingsOk, placedIn, formed}
+use Rattle.tree.specs.Formed.{settingsOk, placedIn, formed}
+use Rattle.tree.specs.Inner.Heads.{Head}
 use Rattle.tree.specs.Calls.{Outcome, refuse, Edit, list, mark, owners, onReadingTo, readableTo, toldAs, onObject, editAt, editBytes, editPut, addPut, tested, changed, changeEnds, changeTo, New, nobody, objectFor}
 use Rattle.tree.specs.Calls.{addTo, alterTo, undoTo, startOk, startTo, answerValues, listBytes, copied, dataOf, listTo, ownTo, dataTo, countsTo, ChangeGiven, add, alter}
 use Rattle.tree.proofs.History.{Call, edit, undo, Past, settled, edited, after, remains, next, noted, unnoted, accepts, afresh}

@@ -24,7 +24,8 @@ use Rattle.tree.specs.Model.{shortIf}
 use Rattle.tree.specs.General.{tab}
 use Rattle.tree.specs.Held.{held, isDone, parentIn, blockFor}
 use Rattle.tree.specs.Room.{objectLimit, stepLimit, objects, keptSteps, settings, ownData, slot, step, stepTag, stepObject, stepData, area}
-use Rattle.tree.specs.Formed.{Head, placedIn, stepsOk, formed}
+use Rattle.tree.specs.Formed.{placedIn, stepsOk, formed}
+use Rattle.tree.specs.Inner.Heads.{Head}
 use Rattle.list.specs.Order.{need}
 use Rattle.tree.specs.Calls.{Edit, list, mark, owners, Outcome, refuse, onReadingTo, readableTo, onObject, tested, toldAs as told-in, ChangeGiven, add, alter}
 use Rattle.tree.specs.Calls.{editAt, editBytes, editPut, addPut, changed, changeTo, latest, standingAfter, stepTakenBack, changeEnds, undoEnds, New, nobody, objectFor, addTo, alterTo, undoTo}

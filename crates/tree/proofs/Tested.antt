@@ -15,7 +15,8 @@ use Rattle.list.proofs.Tests.{both-true, false-or}
 use Rattle.tree.specs.General.{every}
 use Rattle.tree.specs.Held.{bytesIn}
 use Rattle.tree.specs.Room.{objectLimit, objects, keptSteps, settings, ownData, step, stepTag}
-use Rattle.tree.specs.Formed.{countsOk, Head, settingsOk, objectOk, stepOk, standing, stepsOk, formed}
+use Rattle.tree.specs.Formed.{countsOk, settingsOk, objectOk, stepOk, standing, stepsOk, formed}
+use Rattle.tree.specs.Inner.Heads.{Head}
 
 -- ---- a callee's answer, tested by `!`
 

@@ -1,5 +1,5 @@
 -- The test that a room is a well-formed tree (13), as docs/ROOM.md has it.
-use Prim.Native.Nat.{ℕ, zero, suc, _+_, _-_, _≤_}
+use Prim.Native.Nat.{ℕ, zero, suc, _+_, _-_}
 use mathlib.Core.List.{List}
 use mathlib.Core.Bool.{Bool, true, cond, _&&_}
 use mathlib.Core.Option.{Option, none, some}
@@ -20,16 +20,6 @@ countsOk r =
     && (leb (objects r) (objectLimit r)
     && (leb (keptSteps r) (stepLimit r)
     && leb (roomFor (objectLimit r) (stepLimit r)) (length r))))))
-
--- the same as facts: what the private functions ask
-pub record Head (r : List ℕ) : Type 0 where
-  pub long : 1048 ≤ length r
-  pub some-limit : 1 ≤ objectLimit r
-  pub limit-64 : objectLimit r ≤ 64
-  pub steps-64 : stepLimit r ≤ 64
-  pub within : objects r ≤ objectLimit r
-  pub kept-within : keptSteps r ≤ stepLimit r
-  pub room-enough : roomFor (objectLimit r) (stepLimit r) ≤ length r
 
 -- rule 1 or 2, and a good default list
 unfoldable pub settingsOk : List ℕ → Bool

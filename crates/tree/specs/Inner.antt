@@ -1,3 +1,4 @@
 -- What only private functions' contracts cite: no public promise rests on it.
 pub mod Faults
 pub mod Asking
+pub mod Heads

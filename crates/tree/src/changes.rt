@@ -6,7 +6,7 @@ ghost use Prim.Native.Nat.{_+_, _≤_, _<_};
 ghost use lib.ListN.{length};
 ghost use Rattle.tree.specs.General.{isSome};
 ghost use Rattle.tree.specs.Room.{objectLimit, stepLimit, keptSteps, stepObject, roomFor, area};
-ghost use Rattle.tree.specs.Formed.{Head};
+ghost use Rattle.tree.specs.Inner.Heads.{Head};
 ghost use Rattle.tree.specs.Calls.{changed, latest, stepTakenBack, changeTo, takeBackTo};
 use crate::Answer;
 use crate::formed::standing;

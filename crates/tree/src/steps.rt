@@ -5,7 +5,7 @@ ghost use Prim.Native.Nat.{_+_, _≤_, _<_};
 ghost use lib.ListN.{length};
 ghost use Rattle.list.specs.Bytes.{putAt};
 ghost use Rattle.tree.specs.Room.{objectLimit, stepLimit, keptSteps, roomFor, ownData as Room·own, area};
-ghost use Rattle.tree.specs.Formed.{Head};
+ghost use Rattle.tree.specs.Inner.Heads.{Head};
 ghost use Rattle.tree.specs.Calls.{stepKept, stepGone};
 use crate::held::number_in;
 use crate::places::OBJECT;

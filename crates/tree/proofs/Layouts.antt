@@ -1,0 +1,223 @@
+-- A room laid out by hand, byte by byte as docs/ROOM.md has it, and what it shows: its settings, its objects and their lists; and, with a few bytes of it changed,
+-- whether it is a well-formed tree.
+use mathlib.Core.Path.{_≡_, refl}
+use mathlib.Core.Bool.{Bool, true, false}
+use mathlib.Core.List.{List, [], _∷_, _++_, map}
+use mathlib.Core.Option.{Option, none, some}
+use Prim.Native.Nat.{ℕ}
+use lib.ListN.{take, replicate}
+use Rattle.list.specs.Bytes.{putAt}
+use Rattle.inherit.specs.Asked.{MaybeList}
+use Rattle.inherit.proofs.Worked.{mapping, system, parentWith, inherited, listed}
+use Rattle.tree.specs.General.{every, tab}
+use Rattle.tree.specs.Model.{Settings, Object, shortIf, limitsOk}
+use Rattle.tree.specs.Held.{bytesIn, slotOk, idIn, idOk, blockOk, alike}
+use Rattle.tree.specs.Room.{settings, ownData, slot, step, emptyRoom}
+use Rattle.tree.specs.Formed.{countsOk, settingsOk, placedIn, objectOk, againOk, stepOk, stepsOk, formed}
+use Rattle.list.specs.Order.{need}
+use Rattle.tree.specs.declared.Answer.the-variants.{Done, Refused}
+use Rattle.tree.specs.Work as Work
+use Rattle.tree.specs.Work.{aboveIn, rework, reworked}
+use Rattle.tree.specs.Calls.{stepKept, stepGone, onReadingTo, readableTo, toldAs, onObject, reworkedWith, changed, stepTakenBack, changeEnds, undoEnds, startOk, startTo, mark as Edit·mark, editAt, editBytes, tested, addTo, alterTo, undoTo, refuse, listBytes, copied, listTo, ownTo, dataOf, dataTo, countsTo}
+use Rattle.tree.specs.Shown.{settingsIn, objectsIn, listsIn, objectsBack}
+use Rattle.tree.proofs.Worked.{bytes-open, entries-open, lists-open, copies-open, last-open, compute-open, tree-open}
+
+-- S-1-5-18 in its 69 bytes; no list, and the worked parent's list, in a slot's 1,027
+pub name : List ℕ
+name = 12 ∷ (system ++ replicate 56 0)
+
+pub no-list : List ℕ
+no-list = replicate 1027 0
+
+pub one-list : List ℕ
+one-list = 1 ∷ 28 ∷ 0 ∷ (parentWith 0x03 ++ replicate 996 0)
+
+-- the mapping's four masks
+pub masks : List ℕ
+masks = 0x89 ∷ 0x00 ∷ 0x12 ∷ 0x00 ∷ 0x16 ∷ 0x01 ∷ 0x12 ∷ 0x00 ∷ 0xA0 ∷ 0x00 ∷ 0x12 ∷ 0x00 ∷ 0xFF ∷ 0x01 ∷ 0x1F ∷ 0x00 ∷ []
+
+-- own data: parent, kind, mark, the type's bytes, owner, group, own list
+pub own : ℕ → ℕ → ℕ → List ℕ → List ℕ
+own parent mark type list = (parent ∷ 1 ∷ mark ∷ []) ++ (replicate 16 type ++ (name ++ (name ++ list)))
+
+-- object limit 2, step limit 2, how many objects and steps; rule 2, the mapping, no default list; the root with the worked parent as its own list, and a container
+-- below it; their computed lists; the steps
+pub laid : ℕ → ℕ → List ℕ → List ℕ → List ℕ → List ℕ → List ℕ
+laid objects kept first child second steps =
+    (2 ∷ 2 ∷ objects ∷ kept ∷ 2 ∷ [])
+    ++ (masks
+    ++ (no-list ++ (own 0xFF 0 7 one-list ++ (first ++ (child ++ (second ++ steps))))))
+
+-- a step that added the container, and one that changed it, which had this mark
+pub added : List ℕ
+added = 1 ∷ 1 ∷ replicate 1184 0
+
+pub altered : ℕ → List ℕ
+altered mark = 2 ∷ 1 ∷ own 0 mark 8 no-list
+
+-- the container was added, then marked; the lists aren't the fresh ones
+pub room : List ℕ
+room = laid 2 2 one-list (own 0 1 8 no-list) no-list (altered 0 ++ added)
+
+-- what it shows, and what undo of its latest step would show
+pub folder : Option ℕ → Bool → ℕ → MaybeList → Object
+folder parent mark type list =
+    record { parent = parent; container = true; mark = mark; type = replicate 16 type; owner = system; group = system; list = list }
+
+pub record RoomShows : Type 0 where
+  pub settings-shown : settingsIn room ≡ record { object-limit = 2; step-limit = 2; rule = 2; mapping = mapping; default = none }
+  pub objects-shown : objectsIn room ≡ folder none false 7 (some (parentWith 0x03)) ∷ folder (some 0) true 8 none ∷ []
+  pub lists-shown : listsIn room ≡ some (parentWith 0x03) ∷ none ∷ []
+  pub back-shown : objectsBack room ≡ folder none false 7 (some (parentWith 0x03)) ∷ folder (some 0) false 8 none ∷ []
+
+pub room-shows : RoomShows
+unfolding bytes-open room laid masks added altered name no-list one-list own folder tab settings ownData slot step bytesIn idIn objectsIn listsIn objectsBack
+room-shows = record { settings-shown = refl; objects-shown = refl; lists-shown = refl; back-shown = refl }
+
+-- the room with some bytes put at a place, and whether it is well formed then
+pub record Row : Type 0 where
+  pub at : ℕ
+  pub bytes : List ℕ
+  pub well : Bool
+
+row : ℕ → List ℕ → Bool → Row
+row at bytes well = record { at = at; bytes = bytes; well = well }
+
+pub table : List Row
+table =
+    row 0 [] true
+    -- an object limit of 0, one below the objects, one that asks for more room; a step limit below the steps, one that asks for more room
+    ∷ row 0 (0 ∷ []) false
+    ∷ row 0 (1 ∷ []) false
+    ∷ row 0 (3 ∷ []) false
+    ∷ row 1 (1 ∷ []) false
+    ∷ row 1 (3 ∷ []) false
+    -- objects past the limit; one object, so that the latest step is of none; three steps; one, none
+    ∷ row 2 (3 ∷ []) false
+    ∷ row 2 (1 ∷ []) false
+    ∷ row 3 (3 ∷ []) false
+    ∷ row 3 (1 ∷ []) true
+    ∷ row 3 (0 ∷ []) true
+    -- rules 0, 1 and 3
+    ∷ row 4 (0 ∷ []) false
+    ∷ row 4 (1 ∷ []) true
+    ∷ row 4 (3 ∷ []) false
+    -- a default list: neither present nor absent; of no bytes; the least one; the same with a length of 1,025
+    ∷ row 21 (2 ∷ []) false
+    ∷ row 21 (1 ∷ []) false
+    ∷ row 21 (1 ∷ 8 ∷ 0 ∷ 2 ∷ 0 ∷ 8 ∷ 0 ∷ []) true
+    ∷ row 21 (1 ∷ 1 ∷ 4 ∷ 2 ∷ 0 ∷ 8 ∷ 0 ∷ []) false
+    -- object 0: a parent; no container; kind 2; mark 1 and 2
+    ∷ row 1048 (0 ∷ []) false
+    ∷ row 1049 (0 ∷ []) false
+    ∷ row 1049 (2 ∷ []) false
+    ∷ row 1050 (1 ∷ []) true
+    ∷ row 1050 (2 ∷ []) false
+    -- its owner and its group: of 11 and 69 bytes, S-1-3-0; its own list: neither present nor absent, cut
+    ∷ row 1067 (11 ∷ []) false
+    ∷ row 1067 (69 ∷ []) false
+    ∷ row 1075 (3 ∷ 0 ∷ []) false
+    ∷ row 1136 (11 ∷ []) false
+    ∷ row 1136 (69 ∷ []) false
+    ∷ row 1144 (3 ∷ 0 ∷ []) false
+    ∷ row 1205 (2 ∷ []) false
+    ∷ row 1206 (27 ∷ []) false
+    -- its computed list likewise; bytes behind a list aren't looked at
+    ∷ row 2232 (2 ∷ []) false
+    ∷ row 2233 (27 ∷ []) false
+    ∷ row 2263 (9 ∷ []) true
+    -- object 1: itself for a parent, no parent
+    ∷ row 3259 (1 ∷ []) false
+    ∷ row 3259 (0xFF ∷ []) false
+    -- the latest step: of no kind, of an add that isn't the oldest; of no object, of another one
+    ∷ row 5470 (0 ∷ []) false
+    ∷ row 5470 (3 ∷ []) false
+    ∷ row 5470 (1 ∷ []) false
+    ∷ row 5471 (2 ∷ []) false
+    ∷ row 5471 (0 ∷ []) false
+    -- what it puts back: another parent, kind and type, and a mark that is none
+    ∷ row 5472 (0xFF ∷ []) false
+    ∷ row 5473 (0 ∷ []) false
+    ∷ row 5474 (1 ∷ []) true
+    ∷ row 5474 (2 ∷ []) false
+    ∷ row 5475 (9 ∷ []) false
+    -- the step before: of an object that wasn't the last
+    ∷ row 6657 (0 ∷ []) false
+    ∷ []
+
+formed-open : Unit {0}
+unfolding formed countsOk settingsOk every objectOk placedIn stepsOk stepOk againOk blockOk slotOk idOk alike settings ownData slot step bytesIn idIn
+formed-open = tt
+
+pub formings : map (λ x. formed (putAt (x .at) (x .bytes) room)) table ≡ map (λ x. x .well) table
+unfolding bytes-open entries-open lists-open compute-open room laid masks added altered name no-list one-list own table row putAt formed-open
+formings = refl
+
+-- a byte short, and a byte more
+pub lengths : (formed (take 7841 room) ≡ false) × (formed (room ++ (9 ∷ [])) ≡ true)
+unfolding bytes-open entries-open lists-open compute-open room laid masks added altered name no-list one-list own formed-open
+lengths = (refl, refl)
+
+-- ---- the steps: one more in front of the others, past the limit the oldest forgotten; and one less
+
+pub steps : ℕ → List ℕ → List ℕ → List ℕ
+steps kept first second = (0 ∷ 2 ∷ 0 ∷ kept ∷ []) ++ (replicate 1044 9 ++ (first ++ second))
+
+pub stepping : (stepKept (replicate 1186 3) (steps 1 (replicate 1186 1) (replicate 1186 2)) ≡ steps 2 (replicate 1186 3) (replicate 1186 1))
+    × ((stepKept (replicate 1186 3) (steps 2 (replicate 1186 1) (replicate 1186 2)) ≡ steps 2 (replicate 1186 3) (replicate 1186 1))
+    × (stepGone (steps 2 (replicate 1186 1) (replicate 1186 2)) ≡ steps 1 (replicate 1186 2) (replicate 1186 2)))
+unfolding bytes-open steps stepKept stepGone putAt
+stepping = (refl, (refl, refl))
+
+-- ---- calls: the room afterwards, byte by byte
+
+calls-open : Unit {0}
+unfolding need onReadingTo readableTo shortIf limitsOk startOk toldAs onObject startTo addTo alterTo undoTo listBytes copied listTo ownTo dataOf dataTo countsTo tested editAt editBytes changed reworkedWith stepTakenBack changeEnds undoEnds emptyRoom aboveIn Work.laid rework reworked
+calls-open = tt
+
+-- the fresh lists in their slots: K1's for the container
+pub fresh-first : List ℕ
+fresh-first = 1 ∷ 28 ∷ 0 ∷ (listed 0x1C 1 (inherited 0x03 ∷ []) ++ replicate 996 0)
+
+pub fresh-second : List ℕ
+fresh-second = 1 ∷ 48 ∷ 0 ∷ (listed 0x30 2 (inherited 0x10 ∷ inherited 0x1B ∷ []) ++ replicate 976 0)
+
+pub record CallsWorked : Type 0 where
+  -- undo takes the mark off again; the step that is left lies in front, and where it lay
+  pub undone : undoTo room ≡ record { answer = Done 0 false 0; bytes = laid 2 1 fresh-first (own 0 0 8 no-list) fresh-second (added ++ added) }
+  -- the mark taken off by a change: the step that added the container is forgotten
+  pub unmarked : alterTo 1 (Edit·mark false) room ≡ record { answer = Done 48 true 2; bytes = laid 2 2 fresh-first (own 0 0 8 no-list) fresh-second (altered 1 ++ altered 0) }
+  -- the container added to the root alone, its place empty before; a third object is one too many
+  pub another :
+      addTo (folder (some 0) true 8 none) (laid 1 0 one-list (replicate 1184 0) no-list (replicate 2372 6))
+      ≡ record { answer = Done 48 true 2; bytes = laid 2 1 fresh-first (own 0 1 8 no-list) fresh-second (added ++ replicate 1186 6) }
+  pub too-many : addTo (folder (some 0) true 8 none) room ≡ refuse 10 0 0 room
+  -- what is read back, and where there is no room for it
+  pub own-read : ownTo 0 room (replicate 29 9) ≡ record { answer = Done 28 true 1; bytes = parentWith 0x03 ++ (9 ∷ []) }
+  pub list-read : listTo 1 room (replicate 2 9) ≡ record { answer = Done 0 false 0; bytes = replicate 2 9 }
+  pub list-short : listTo 0 room (replicate 27 9) ≡ refuse 8 0 0 (replicate 27 9)
+  pub data-read :
+      dataTo 1 room (replicate 46 9)
+      ≡ record { answer = Done 45 true 0; bytes = (0 ∷ 1 ∷ 1 ∷ []) ++ (replicate 16 8 ++ ((12 ∷ system) ++ ((12 ∷ system) ++ (9 ∷ [])))) }
+  pub counted : (countsTo room ≡ Done 2 true 2) × (countsTo (take 7841 room) ≡ Refused 13 0 0)
+
+pub calls-worked : CallsWorked
+unfolding bytes-open entries-open lists-open copies-open last-open compute-open tree-open room laid masks added altered name no-list one-list own fresh-first fresh-second folder formed-open putAt stepKept stepGone calls-open
+calls-worked =
+    record {
+      undone = refl;
+      unmarked = refl;
+      another = refl;
+      too-many = refl;
+      own-read = refl;
+      list-read = refl;
+      list-short = refl;
+      data-read = refl;
+      counted = (refl, refl);
+    }
+
+-- a start, in a room of other bytes
+pub begun : startTo (record { object-limit = 1; step-limit = 0; rule = 1; mapping = mapping; default = none }) (replicate 3260 9)
+    ≡ record { answer = Done 0 false 0; bytes = (1 ∷ 0 ∷ 0 ∷ 0 ∷ 1 ∷ []) ++ (masks ++ (replicate 3238 0 ++ (9 ∷ []))) }
+unfolding bytes-open tree-open compute-open lists-open calls-open masks
+begun = refl
