@@ -18,8 +18,9 @@ use Rattle.list.specs.Order.{need}
 use Rattle.tree.specs.declared.Answer.the-variants.{Done, Refused}
 use Rattle.tree.specs.Work as Work
 use Rattle.tree.specs.Work.{aboveIn, rework, reworked}
-use Rattle.tree.specs.Calls.{stepKept, stepGone, onReadingTo, readableTo, toldAs, onObject, reworkedWith, changed, stepTakenBack, changeEnds, undoEnds, startOk, startTo, mark as Edit·mark, editAt, editBytes, tested, addTo, alterTo, undoTo, refuse, listBytes, copied, listTo, ownTo, dataOf, dataTo, countsTo}
-use Rattle.tree.specs.Shown.{settingsIn, objectsIn, listsIn, objectsBack}
+use Rattle.tree.specs.Calls.{stepKept, stepGone, onReadingTo, readableTo, toldAs, onObject, reworkedWith, changed, stepTakenBack, changeEnds, undoEnds, startOk, startTo, list as Edit·list, mark as Edit·mark, editAt, editBytes, tested, addTo, alterTo, undoTo, refuse, listBytes, copied, listTo, ownTo, dataOf, dataTo, countsTo}
+use Rattle.tree.specs.Shown.{settingsIn, settingsFrom, objectsIn, listsIn, objectsBack}
+use Rattle.tree.proofs.Trees.{long-list}
 use Rattle.tree.proofs.Worked.{bytes-open, entries-open, lists-open, copies-open, last-open, compute-open, tree-open}
 
 -- S-1-5-18 in its 69 bytes; no list, and the worked parent's list, in a slot's 1,027
@@ -58,6 +59,10 @@ altered mark = 2 ∷ 1 ∷ own 0 mark 8 no-list
 -- the container was added, then marked; the lists aren't the fresh ones
 pub room : List ℕ
 room = laid 2 2 one-list (own 0 1 8 no-list) no-list (altered 0 ++ added)
+
+-- the same, where the latest step put the root's list in the place of this one, of 1,024 bytes
+pub room-before : List ℕ → List ℕ
+room-before list = laid 2 1 one-list (own 0 1 8 no-list) no-list ((2 ∷ 0 ∷ own 0xFF 0 7 (1 ∷ 0 ∷ 4 ∷ list)) ++ added)
 
 -- what it shows, and what undo of its latest step would show
 pub folder : Option ℕ → Bool → ℕ → MaybeList → Object
@@ -192,6 +197,9 @@ pub record CallsWorked : Type 0 where
       addTo (folder (some 0) true 8 none) (laid 1 0 one-list (replicate 1184 0) no-list (replicate 2372 6))
       ≡ record { answer = Done 48 true 2; bytes = laid 2 1 fresh-first (own 0 1 8 no-list) fresh-second (added ++ replicate 1186 6) }
   pub too-many : addTo (folder (some 0) true 8 none) room ≡ refuse 10 0 0 room
+  -- 8: the root's list of 1,024 bytes would give the container one of 2,008; and so would undo of a step that had it
+  pub over : alterTo 0 (Edit·list (some (long-list 3))) room ≡ refuse 8 0 0 room
+  pub undo-over : undoTo (room-before (long-list 3)) ≡ refuse 8 0 0 (room-before (long-list 3))
   -- what is read back, and where there is no room for it
   pub own-read : ownTo 0 room (replicate 29 9) ≡ record { answer = Done 28 true 1; bytes = parentWith 0x03 ++ (9 ∷ []) }
   pub list-read : listTo 1 room (replicate 2 9) ≡ record { answer = Done 0 false 0; bytes = replicate 2 9 }
@@ -202,13 +210,15 @@ pub record CallsWorked : Type 0 where
   pub counted : (countsTo room ≡ Done 2 true 2) × (countsTo (take 7841 room) ≡ Refused 13 0 0)
 
 pub calls-worked : CallsWorked
-unfolding bytes-open entries-open lists-open copies-open last-open compute-open tree-open room laid masks added altered name no-list one-list own fresh-first fresh-second folder formed-open putAt stepKept stepGone calls-open
+unfolding bytes-open entries-open lists-open copies-open last-open compute-open tree-open room room-before laid masks added altered name no-list one-list own fresh-first fresh-second folder formed-open putAt stepKept stepGone calls-open
 calls-worked =
     record {
       undone = refl;
       unmarked = refl;
       another = refl;
       too-many = refl;
+      over = refl;
+      undo-over = refl;
       own-read = refl;
       list-read = refl;
       list-short = refl;
@@ -217,7 +227,12 @@ calls-worked =
     }
 
 -- a start, in a room of other bytes
-pub begun : startTo (record { object-limit = 1; step-limit = 0; rule = 1; mapping = mapping; default = none }) (replicate 3260 9)
-    ≡ record { answer = Done 0 false 0; bytes = (1 ∷ 0 ∷ 0 ∷ 0 ∷ 1 ∷ []) ++ (masks ++ (replicate 3238 0 ++ (9 ∷ []))) }
-unfolding bytes-open tree-open compute-open lists-open calls-open masks
+pub begun : startTo (record { object-limit = 1; step-limit = 1; rule = 1; mapping = mapping; default = some (parentWith 0x03) }) (replicate 4446 9)
+    ≡ record { answer = Done 0 false 0; bytes = (1 ∷ 1 ∷ 0 ∷ 0 ∷ 1 ∷ []) ++ (masks ++ (one-list ++ (replicate 3397 0 ++ (9 ∷ [])))) }
+unfolding bytes-open entries-open tree-open compute-open lists-open calls-open masks one-list
 begun = refl
+
+-- masks of 32 bits are the masks that are meant
+pub masks-meant : (d : MaybeList)
+    → settingsFrom (record { object-limit = 1; step-limit = 1; rule = 1; mapping = mapping; default = d }) ≡ record { object-limit = 1; step-limit = 1; rule = 1; mapping = mapping; default = d }
+masks-meant d = refl

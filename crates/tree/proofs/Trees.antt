@@ -2,9 +2,9 @@
 -- calls answer in any room.
 use mathlib.Core.Path.{_≡_, refl, sym, ap, ap₂, _∙_}
 use mathlib.Core.Bool.{Bool, true, false}
-use mathlib.Core.List.{List, [], _∷_, _++_, map}
+use mathlib.Core.List.{List, [], _∷_, _++_, map, flatten}
 use mathlib.Core.Option.{Option, none, some}
-use Prim.Native.Nat.{ℕ, _≤_}
+use Prim.Native.Nat.{ℕ, _+_, _-_, _*_, _≤_}
 use lib.ListN.{length, replicate}
 use lib.Dec.{eqb, leb}
 use borrow.Author.Tests.{le-leb}
@@ -47,6 +47,13 @@ plain = 0x00 ∷ 0x00 ∷ 0x14 ∷ 0 ∷ 0x01 ∷ 0 ∷ 0 ∷ 0 ∷ system
 
 abbrev plain-list : List ℕ
 plain-list = bytes 0x1C 1 (plain ∷ [])
+
+-- thirteen entries of 76 bytes and one for a SID of n numbers, all inherited below: with n = 3 a list of 1,024 bytes
+abbrev entry-for : ℕ → List ℕ
+entry-for n = (0x00 ∷ 0x03 ∷ (16 + 4 * n) ∷ 0 ∷ 0x01 ∷ 0 ∷ 0 ∷ 0 ∷ 0x01 ∷ n ∷ []) ++ replicate (6 + 4 * n) 0
+
+abbrev pub long-list : ℕ → List ℕ
+long-list n = (0x02 ∷ 0 ∷ (4 * n - 12) ∷ 0x04 ∷ 14 ∷ 0 ∷ 0 ∷ 0 ∷ []) ++ (flatten (replicate 13 (entry-for 15)) ++ entry-for n)
 
 -- what calls answer, the latest first, and object i's list after them
 unfoldable pub answers : Tree → List Call → List Values
@@ -95,6 +102,11 @@ pub record Worked : Type 0 where
       ≡ refused 10 0 0 ∷ done 48 1 2 0 ∷ done 48 1 2 0 ∷ done 28 1 1 0 ∷ []
   pub bad-list : answers (tree 2 16 none) (change (setList 0 (some [])) ∷ root ∷ []) ≡ refused 1 2 0 ∷ done 28 1 1 0 ∷ []
   pub bad-owner : answers (tree 2 16 none) (change (setOwners 0 (creator 0) system) ∷ root ∷ []) ≡ refused 6 0 0 ∷ done 28 1 1 0 ∷ []
+  -- 8: a list given of 1,024 bytes is done and one of 1,028 refused; a container below it would have a list of over 1,024
+  pub given-long :
+      answers (tree 2 16 none) (folder none false (some (long-list 4)) ∷ []) ≡ refused 8 0 0 ∷ []
+  pub computed-long : answers (tree 2 16 none) (child false none ∷ folder none false (some (long-list 3)) ∷ []) ≡ refused 8 0 0 ∷ done 1024 1 14 0 ∷ []
+  pub told-long : told none ≡ refused 8 0 0
   -- what is read back of the root: its own list, its other data; and how many objects and steps there are
   pub own-read : answers (tree 2 16 none) (read own-list 0 (replicate 28 0) ∷ read own-list 0 (replicate 27 0) ∷ root ∷ []) ≡ done 28 1 1 0 ∷ refused 8 0 0 ∷ done 28 1 1 0 ∷ []
   pub data-read :
@@ -134,6 +146,9 @@ worked =
       limit-reached = refl;
       bad-list = refl;
       bad-owner = refl;
+      given-long = refl;
+      computed-long = refl;
+      told-long = refl;
       own-read = refl;
       data-read = refl;
       counted = refl;

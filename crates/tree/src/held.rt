@@ -9,6 +9,7 @@ use crate::Answer;
 use crate::places::GROUP_AT;
 use crate::places::IDENTITY;
 use crate::places::LIST_AT;
+use crate::places::LONGEST_IDENTITY;
 use crate::places::LONGEST_LIST;
 use crate::places::OWN_LIST_AT;
 use crate::places::OWNER_AT;
@@ -70,7 +71,7 @@ pub(crate) fn slot_ok(s: &[u8]) -> bool
 pub(crate) fn id_in(f: &[u8]) -> &[u8]
     ensures { λ r. ⌜ now r ≡ idIn (now (f .entry)) ⌝ }
 {
-    part_of(part_of(f, 1, 68), 0, number_in(f, 0))
+    part_of(part_of(f, 1, LONGEST_IDENTITY), 0, number_in(f, 0))
 }
 
 pub(crate) fn ordinary(s: &[u8]) -> bool
@@ -117,7 +118,7 @@ pub(crate) fn alike(a: &[u8], b: &[u8]) -> bool
     if byte_in(a, 1) != byte_in(b, 1) {
         return false;
     }
-    same_guid(guid_at(a, 3), guid_at(b, TYPE_AT))
+    same_guid(guid_at(a, TYPE_AT), guid_at(b, TYPE_AT))
 }
 
 // A slot's list in an answer.

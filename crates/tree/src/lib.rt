@@ -358,7 +358,7 @@ fn give_data(b: &[u8], out: &mut [u8]) -> Answer
         return refused(8);
     }
     lay(out, 0, part_of(b, 0, OWNER_AT));
-    out[19] = n as u8;
+    out[OWNER_AT] = n as u8;
     lay(out, 20, owner);
     out[20 + n] = m as u8;
     lay(out, 21 + n, group);

@@ -36,12 +36,14 @@ pub(crate) const IDENTITY: usize = 69;
 
 pub(crate) const IDENTITIES: usize = 138;
 
-// The default list in the settings, own data in a step, a list in its slot, and the longest list.
+// The default list in the settings, own data in a step, a list in its slot, the longest identity, and the longest list.
 pub(crate) const DEFAULT_AT: usize = 17;
 
 pub(crate) const STEP_DATA_AT: usize = 2;
 
 pub(crate) const LIST_AT: usize = 3;
+
+pub(crate) const LONGEST_IDENTITY: usize = 68;
 
 pub(crate) const LONGEST_LIST: usize = 1024;
 

@@ -14,10 +14,12 @@ ghost use Rattle.tree.specs.Room.{settingsFor};
 use crate::places::DEFAULT_AT;
 use crate::places::IDENTITY;
 use crate::places::LIST_AT;
+use crate::places::LONGEST_IDENTITY;
 use crate::places::LONGEST_LIST;
 use crate::places::OWN_LIST_AT;
 use crate::places::OWNER_AT;
 use crate::places::SLOT;
+use crate::places::TYPE_AT;
 use inherit::Mapping;
 
 pub(crate) fn least(a: usize, b: usize) -> usize
@@ -62,7 +64,7 @@ pub(crate) fn lay_list(w: &mut [u8], at: usize, s: &[u8])
     w[at] = 1;
     w[at + 1] = (n % 256) as u8;
     w[at + 2] = (n / 256) as u8;
-    lay(w, at + 3, s);
+    lay(w, at + LIST_AT, s);
     zero(w, at + LIST_AT + n, LONGEST_LIST - n);
 }
 
@@ -86,7 +88,7 @@ pub(crate) fn lay_id(w: &mut [u8], at: usize, s: &[u8])
     let n = s.len();
     w[at] = n as u8;
     lay(w, at + 1, s);
-    zero(w, at + 1 + n, 68 - n);
+    zero(w, at + 1 + n, LONGEST_IDENTITY - n);
 }
 
 // Owner and group, one behind the other.
@@ -117,7 +119,7 @@ pub(crate) fn lay_new(
     w[0] = least(255, parent) as u8;
     w[1] = bit(container);
     w[2] = bit(mark);
-    lay(w, 3, &kind);
+    lay(w, TYPE_AT, &kind);
     lay_owners(w, OWNER_AT, owner, group);
     lay_slot(w, OWN_LIST_AT, has, s);
 }
