@@ -19,7 +19,7 @@ use Rattle.tree.proofs.Worked.{lists, bytes-open, entries-open, lists-open, cop
 use Rattle.tree.proofs.Trees.{model-open, calls-open}
 use Rattle.script.specs.declared.records.Found.the-variants.{Cut, Bad, Record}
 use Rattle.script.specs.Record.{nameEnd, listEnd, parentNamed, recordSize, formOk, recordAsks, stepOf}
-use Rattle.script.specs.Fold.{past, onStep, runBy, runOf, onCall, callsBy, callsOf}
+use Rattle.script.specs.Fold.{past, onStep, runBy, runOf, onCall, callsBy, callsOf, allPieces}
 use Rattle.script.specs.Text.{digits, decimal, columnsBy, columns, line, lines, heading, listing, badLine}
 use Rattle.script.specs.Play.{mapping, began, scriptHeadOk, Listed, BadAt, endingAfter, fresh, endingOf, textOf, endingAnswer, textTo, listingTo}
 use Rattle.script.proofs.Plays.{treeOf, listed-afresh}
@@ -67,6 +67,10 @@ pub runs-worked : (r : List ℕ)
     × ((runOf (6 ∷ []) r ≡ record { used = 0; bad = true; room = r }) × (runOf (3 ∷ 0 ∷ []) r ≡ record { used = 0; bad = false; room = r }))
 unfolding le nameEnd listEnd recordSize formOk stepOf onStep runBy runOf
 runs-worked r = (refl, (refl, refl))
+
+pub pieces-worked : allPieces ((1 ∷ 2 ∷ []) ∷ [] ∷ (3 ∷ []) ∷ []) ≡ 1 ∷ 2 ∷ 3 ∷ []
+unfolding allPieces
+pieces-worked = refl
 
 -- ---- a script's head, and the tree that it is played on
 

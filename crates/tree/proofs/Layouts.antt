@@ -23,9 +23,12 @@ use Rattle.tree.specs.Shown.{settingsIn, settingsFrom, objectsIn, listsI
 use Rattle.tree.proofs.Trees.{long-list}
 use Rattle.tree.proofs.Worked.{bytes-open, entries-open, lists-open, copies-open, last-open, compute-open, tree-open}
 
--- S-1-5-18 in its 69 bytes; no list, and the worked parent's list, in a slot's 1,027
-pub name : List ℕ
-name = 12 ∷ (system ++ replicate 56 0)
+-- S-1-5-19; an identity of 12 bytes in its 69; no list, and the worked parent's list, in a slot's 1,027
+abbrev pub service : List ℕ
+service = 0x01 ∷ 0x01 ∷ 0 ∷ 0 ∷ 0 ∷ 0 ∷ 0 ∷ 0x05 ∷ 0x13 ∷ 0 ∷ 0 ∷ 0 ∷ []
+
+pub name : List ℕ → List ℕ
+name sid = 12 ∷ (sid ++ replicate 56 0)
 
 pub no-list : List ℕ
 no-list = replicate 1027 0
@@ -39,7 +42,7 @@ masks = 0x89 ∷ 0x00 ∷ 0x12 ∷ 0x00 ∷ 0x16 ∷ 0x01 ∷ 0x12 ∷ 0x00 ∷ 
 
 -- own data: parent, kind, mark, the type's bytes, owner, group, own list
 pub own : ℕ → ℕ → ℕ → List ℕ → List ℕ
-own parent mark type list = (parent ∷ 1 ∷ mark ∷ []) ++ (replicate 16 type ++ (name ++ (name ++ list)))
+own parent mark type list = (parent ∷ 1 ∷ mark ∷ []) ++ (replicate 16 type ++ (name system ++ (name service ++ list)))
 
 -- object limit 2, step limit 2, how many objects and steps; rule 2, the mapping, no default list; the root with the worked parent as its own list, and a container
 -- below it; their computed lists; the steps
@@ -67,7 +70,7 @@ room-before list = laid 2 1 one-list (own 0 1 8 no-list) no-list ((2 ∷ 0 ∷ o
 -- what it shows, and what undo of its latest step would show
 pub folder : Option ℕ → Bool → ℕ → MaybeList → Object
 folder parent mark type list =
-    record { parent = parent; container = true; mark = mark; type = replicate 16 type; owner = system; group = system; list = list }
+    record { parent = parent; container = true; mark = mark; type = replicate 16 type; owner = system; group = service; list = list }
 
 pub record RoomShows : Type 0 where
   pub settings-shown : settingsIn room ≡ record { object-limit = 2; step-limit = 2; rule = 2; mapping = mapping; default = none }
@@ -206,7 +209,7 @@ pub record CallsWorked : Type 0 where
   pub list-short : listTo 0 room (replicate 27 9) ≡ refuse 8 0 0 (replicate 27 9)
   pub data-read :
       dataTo 1 room (replicate 46 9)
-      ≡ record { answer = Done 45 true 0; bytes = (0 ∷ 1 ∷ 1 ∷ []) ++ (replicate 16 8 ++ ((12 ∷ system) ++ ((12 ∷ system) ++ (9 ∷ [])))) }
+      ≡ record { answer = Done 45 true 0; bytes = (0 ∷ 1 ∷ 1 ∷ []) ++ (replicate 16 8 ++ ((12 ∷ system) ++ ((12 ∷ service) ++ (9 ∷ [])))) }
   pub counted : (countsTo room ≡ Done 2 true 2) × (countsTo (take 7841 room) ≡ Refused 13 0 0)
 
 pub calls-worked : CallsWorked

@@ -112,6 +112,10 @@ pub record Worked : Type 0 where
   pub data-read :
       readInto (after (tree 2 16 none) (root ∷ []) .settings) (objectsOf (after (tree 2 16 none) (root ∷ []))) other-data 0 (replicate 46 7)
       ≡ 0xFF ∷ 1 ∷ 0 ∷ (replicate 16 0 ++ (12 ∷ (system ++ (12 ∷ (system ++ (7 ∷ []))))))
+  -- an object's owner, then its group
+  pub data-order :
+      dataBytes (record { parent = some 5; container = false; mark = true; type = replicate 16 7; owner = system; group = creator 0; list = none })
+      ≡ 5 ∷ 0 ∷ 1 ∷ (replicate 16 7 ++ ((12 ∷ system) ++ (12 ∷ creator 0)))
   pub counted : answers (tree 2 16 none) (counts ∷ child false none ∷ root ∷ []) ≡ done 2 1 2 0 ∷ done 48 1 2 0 ∷ done 28 1 1 0 ∷ []
   -- a start on the standing tree: refused by its limits it changes nothing, accepted it begins anew
   pub start-refused :
@@ -151,6 +155,7 @@ worked =
       told-long = refl;
       own-read = refl;
       data-read = refl;
+      data-order = refl;
       counted = refl;
       start-refused = refl;
       start-again = refl;
