@@ -7,20 +7,21 @@ use mathlib.Core.Option.{Option, none, some}
 use Prim.Native.Nat.{ℕ}
 use lib.ListN.{take, replicate}
 use Rattle.list.specs.Bytes.{putAt}
+use Rattle.list.specs.Identity.{creator}
 use Rattle.inherit.specs.Asked.{MaybeList}
 use Rattle.inherit.proofs.Worked.{mapping, system, parentWith, inherited, listed}
 use Rattle.tree.specs.General.{every, tab}
 use Rattle.tree.specs.Model.{Settings, Object, shortIf, limitsOk}
-use Rattle.tree.specs.Held.{bytesIn, slotOk, idIn, idOk, blockOk, alike}
+use Rattle.tree.specs.Held.{parentIn, bytesIn, slotOk, idIn, idOk, blockOk, alike}
 use Rattle.tree.specs.Room.{settings, ownData, slot, step, emptyRoom}
 use Rattle.tree.specs.Formed.{countsOk, settingsOk, placedIn, objectOk, againOk, stepOk, stepsOk, formed}
 use Rattle.list.specs.Order.{need}
 use Rattle.tree.specs.declared.Answer.the-variants.{Done, Refused}
 use Rattle.tree.specs.Work as Work
 use Rattle.tree.specs.Work.{aboveIn, rework, reworked}
-use Rattle.tree.specs.Calls.{stepKept, stepGone, onReadingTo, readableTo, toldAs, onObject, reworkedWith, changed, stepTakenBack, changeEnds, undoEnds, startOk, startTo, list as Edit·list, mark as Edit·mark, editAt, editBytes, tested, addTo, alterTo, undoTo, refuse, listBytes, copied, listTo, ownTo, dataOf, dataTo, countsTo}
+use Rattle.tree.specs.Calls.{stepKept, stepGone, onReadingTo, readableTo, toldAs, onObject, reworkedWith, changed, stepTakenBack, changeEnds, undoEnds, startOk, startTo, list as Edit·list, mark as Edit·mark, owners, editAt, editBytes, tested, objectFor, addTo, alterTo, undoTo, refuse, listBytes, copied, listTo, ownTo, dataOf, dataTo, countsTo}
 use Rattle.tree.specs.Shown.{settingsIn, settingsFrom, objectsIn, listsIn, objectsBack}
-use Rattle.tree.proofs.Trees.{long-list}
+use Rattle.tree.proofs.Trees.{plain-list, long-list}
 use Rattle.tree.proofs.Worked.{bytes-open, entries-open, lists-open, copies-open, last-open, compute-open, tree-open}
 
 -- S-1-5-19; an identity of 12 bytes in its 69; no list, and the worked parent's list, in a slot's 1,027
@@ -41,8 +42,11 @@ pub masks : List ℕ
 masks = 0x89 ∷ 0x00 ∷ 0x12 ∷ 0x00 ∷ 0x16 ∷ 0x01 ∷ 0x12 ∷ 0x00 ∷ 0xA0 ∷ 0x00 ∷ 0x12 ∷ 0x00 ∷ 0xFF ∷ 0x01 ∷ 0x1F ∷ 0x00 ∷ []
 
 -- own data: parent, kind, mark, the type's bytes, owner, group, own list
-pub own : ℕ → ℕ → ℕ → List ℕ → List ℕ
-own parent mark type list = (parent ∷ 1 ∷ mark ∷ []) ++ (replicate 16 type ++ (name system ++ (name service ++ list)))
+pub owned : List ℕ → List ℕ → ℕ → ℕ → ℕ → List ℕ → List ℕ
+owned owner group parent mark type list = (parent ∷ 1 ∷ mark ∷ []) ++ (replicate 16 type ++ (name owner ++ (name group ++ list)))
+
+abbrev pub own : ℕ → ℕ → ℕ → List ℕ → List ℕ
+own = owned system service
 
 -- object limit 2, step limit 2, how many objects and steps; rule 2, the mapping, no default list; the root with the worked parent as its own list, and a container
 -- below it; their computed lists; the steps
@@ -67,6 +71,10 @@ room = laid 2 2 one-list (own 0 1 8 no-list) no-list (altered 0 ++ added)
 pub room-before : List ℕ → List ℕ
 room-before list = laid 2 1 one-list (own 0 1 8 no-list) no-list ((2 ∷ 0 ∷ own 0xFF 0 7 (1 ∷ 0 ∷ 4 ∷ list)) ++ added)
 
+-- the root alone, with no step kept, and other bytes in the places of steps
+pub root-alone : List ℕ
+root-alone = laid 1 0 one-list (replicate 1184 0) no-list (replicate 2372 6)
+
 -- what it shows, and what undo of its latest step would show
 pub folder : Option ℕ → Bool → ℕ → MaybeList → Object
 folder parent mark type list =
@@ -79,7 +87,7 @@ pub record RoomShows : Type 0 where
   pub back-shown : objectsBack room ≡ folder none false 7 (some (parentWith 0x03)) ∷ folder (some 0) false 8 none ∷ []
 
 pub room-shows : RoomShows
-unfolding bytes-open room laid masks added altered name no-list one-list own folder tab settings ownData slot step bytesIn idIn objectsIn listsIn objectsBack
+unfolding bytes-open room laid masks added altered name no-list one-list owned folder tab settings ownData slot step bytesIn idIn objectsIn listsIn objectsBack
 room-shows = record { settings-shown = refl; objects-shown = refl; lists-shown = refl; back-shown = refl }
 
 -- the room with some bytes put at a place, and whether it is well formed then
@@ -158,12 +166,16 @@ unfolding formed countsOk settingsOk every objectOk placedIn stepsOk stepOk agai
 formed-open = tt
 
 pub formings : map (λ x. formed (putAt (x .at) (x .bytes) room)) table ≡ map (λ x. x .well) table
-unfolding bytes-open entries-open lists-open compute-open room laid masks added altered name no-list one-list own table row putAt formed-open
+unfolding bytes-open entries-open lists-open compute-open room laid masks added altered name no-list one-list owned table row putAt formed-open
 formings = refl
+
+-- an empty tree: object limit, step limit, and what lies behind the mapping
+pub limits : ℕ → ℕ → List ℕ → List ℕ
+limits objects steps behind = (objects ∷ steps ∷ 0 ∷ 0 ∷ 2 ∷ []) ++ (masks ++ behind)
 
 -- a byte short, and a byte more
 pub lengths : (formed (take 7841 room) ≡ false) × (formed (room ++ (9 ∷ [])) ≡ true)
-unfolding bytes-open entries-open lists-open compute-open room laid masks added altered name no-list one-list own formed-open
+unfolding bytes-open entries-open lists-open compute-open room laid masks added altered name no-list one-list owned formed-open
 lengths = (refl, refl)
 
 -- ---- the steps: one more in front of the others, past the limit the oldest forgotten; and one less
@@ -197,9 +209,28 @@ pub record CallsWorked : Type 0 where
   pub unmarked : alterTo 1 (Edit·mark false) room ≡ record { answer = Done 48 true 2; bytes = laid 2 2 fresh-first (own 0 0 8 no-list) fresh-second (altered 1 ++ altered 0) }
   -- the container added to the root alone, its place empty before; a third object is one too many
   pub another :
-      addTo (folder (some 0) true 8 none) (laid 1 0 one-list (replicate 1184 0) no-list (replicate 2372 6))
+      addTo (folder (some 0) true 8 none) root-alone
       ≡ record { answer = Done 48 true 2; bytes = laid 2 1 fresh-first (own 0 1 8 no-list) fresh-second (added ++ replicate 1186 6) }
   pub too-many : addTo (folder (some 0) true 8 none) room ≡ refuse 10 0 0 room
+  -- undo of an add: its object is gone; then there is no step left
+  pub taken-off :
+      undoTo (laid 2 1 one-list (own 0 1 8 no-list) no-list (added ++ replicate 1186 6))
+      ≡ record { answer = Done 0 false 0; bytes = laid 1 0 fresh-first (replicate 1184 0) no-list (replicate 2372 6) }
+  pub no-step : undoTo root-alone ≡ refuse 11 0 0 root-alone
+  -- owner and group in each other's place; a placeholder for either
+  pub exchanged :
+      alterTo 1 (owners service system) room
+      ≡ record { answer = Done 48 true 2; bytes = laid 2 2 fresh-first (owned service system 0 1 8 no-list) fresh-second (altered 1 ++ altered 0) }
+  pub no-owner : alterTo 1 (owners (creator 0) system) room ≡ refuse 6 0 0 room
+  pub no-group : alterTo 1 (owners system (creator 1)) room ≡ refuse 6 0 0 room
+  -- below the root: what is no container (K2); an own list with the mark (K8) and without (K9)
+  pub leaf : addTo (record { parent = some 0; container = false; mark = false; type = replicate 16 8; owner = system; group = service; list = none }) root-alone .answer ≡ Done 28 true 1
+  pub closed : addTo (folder (some 0) true 8 (some plain-list)) root-alone .answer ≡ Done 28 true 1
+  pub opened : addTo (folder (some 0) false 8 (some plain-list)) root-alone .answer ≡ Done 68 true 3
+  -- a room that isn't well formed, and an object that doesn't stand
+  pub no-tree : undoTo (take 7841 room) ≡ refuse 13 0 0 (take 7841 room)
+  pub no-tree-changed : alterTo 1 (Edit·mark true) (take 7841 room) ≡ refuse 13 0 0 (take 7841 room)
+  pub no-object : alterTo 2 (Edit·mark true) room ≡ refuse 9 0 0 room
   -- 8: the root's list of 1,024 bytes would give the container one of 2,008; and so would undo of a step that had it
   pub over : alterTo 0 (Edit·list (some (long-list 3))) room ≡ refuse 8 0 0 room
   pub undo-over : undoTo (room-before (long-list 3)) ≡ refuse 8 0 0 (room-before (long-list 3))
@@ -213,13 +244,24 @@ pub record CallsWorked : Type 0 where
   pub counted : (countsTo room ≡ Done 2 true 2) × (countsTo (take 7841 room) ≡ Refused 13 0 0)
 
 pub calls-worked : CallsWorked
-unfolding bytes-open entries-open lists-open copies-open last-open compute-open tree-open room room-before laid masks added altered name no-list one-list own fresh-first fresh-second folder formed-open putAt stepKept stepGone calls-open
+unfolding bytes-open entries-open lists-open copies-open last-open compute-open tree-open room room-before root-alone laid masks added altered name no-list one-list owned fresh-first fresh-second folder formed-open putAt stepKept stepGone calls-open
 calls-worked =
     record {
       undone = refl;
       unmarked = refl;
       another = refl;
       too-many = refl;
+      taken-off = refl;
+      no-step = refl;
+      exchanged = refl;
+      no-owner = refl;
+      no-group = refl;
+      leaf = refl;
+      closed = refl;
+      opened = refl;
+      no-tree = refl;
+      no-tree-changed = refl;
+      no-object = refl;
       over = refl;
       undo-over = refl;
       own-read = refl;
@@ -228,6 +270,18 @@ calls-worked =
       data-read = refl;
       counted = (refl, refl);
     }
+
+-- what an add is given, as the object that it means
+pub given-worked : (parent : ℕ) → objectFor (record { parent = parent; container = true; mark = false; type = replicate 16 8; owner = system; group = service; list = none })
+    ≡ folder (parentIn 0xFFFFFFFF parent) false 8 none
+unfolding bytes-open folder
+given-worked parent = refl
+
+-- the largest limits, and one past them
+pub limits-worked : (formed (limits 64 0 (replicate 142531 0)) ≡ true) × ((formed (limits 65 0 (replicate 144742 0)) ≡ false)
+    × ((formed (limits 1 64 (replicate 79142 0)) ≡ true) × (formed (limits 1 65 (replicate 80328 0)) ≡ false)))
+unfolding bytes-open entries-open lists-open compute-open masks limits formed-open
+limits-worked = (refl, (refl, (refl, refl)))
 
 -- a start, in a room of other bytes
 pub begun : startTo (record { object-limit = 1; step-limit = 1; rule = 1; mapping = mapping; default = some (parentWith 0x03) }) (replicate 4446 9)

@@ -42,11 +42,22 @@ abbrev child : Bool → MaybeList → Call
 child mark list = folder (some 0) mark list
 
 -- allow, flags 0, mask 1, S-1-5-18, and its list
-abbrev plain : List ℕ
+abbrev pub plain : List ℕ
 plain = 0x00 ∷ 0x00 ∷ 0x14 ∷ 0 ∷ 0x01 ∷ 0 ∷ 0 ∷ 0 ∷ system
 
-abbrev plain-list : List ℕ
+abbrev pub plain-list : List ℕ
 plain-list = bytes 0x1C 1 (plain ∷ [])
+
+-- a root of such an owner and group; a group of 16 bytes, and an entry that names one of 12
+abbrev owned : List ℕ → List ℕ → Call
+owned owner group =
+    change (add (record { parent = none; container = true; mark = false; type = replicate 16 0; owner = owner; group = group; list = none }))
+
+abbrev group-16 : List ℕ
+group-16 = 0x01 ∷ 0x02 ∷ 0 ∷ 0 ∷ 0 ∷ 0 ∷ 0 ∷ 0x05 ∷ replicate 8 1
+
+abbrev group-entry : List ℕ → List ℕ
+group-entry sid = 0x00 ∷ 0x00 ∷ 0x14 ∷ 0 ∷ 0x01 ∷ 0 ∷ 0 ∷ 0 ∷ sid
 
 -- thirteen entries of 76 bytes and one for a SID of n numbers, all inherited below: with n = 3 a list of 1,024 bytes
 abbrev entry-for : ℕ → List ℕ
@@ -96,12 +107,20 @@ pub record Worked : Type 0 where
   -- short 1, of list 2; a placeholder for owner 6
   pub two-roots : answers (tree 2 16 none) (root ∷ root ∷ []) ≡ refused 9 0 0 ∷ done 28 1 1 0 ∷ []
   pub no-root : answers (tree 2 16 none) (child false none ∷ []) ≡ refused 9 0 0 ∷ []
-  pub no-object : answers (tree 2 16 none) (change (setMark 1 true) ∷ root ∷ []) ≡ refused 9 0 0 ∷ done 28 1 1 0 ∷ []
+  pub no-object :
+      answers (tree 2 16 none) (change (setOwners 1 system system) ∷ change (setList 1 none) ∷ change (setMark 1 true) ∷ root ∷ [])
+      ≡ refused 9 0 0 ∷ refused 9 0 0 ∷ refused 9 0 0 ∷ done 28 1 1 0 ∷ []
   pub limit-reached :
       answers (tree 2 16 none) (child false (some []) ∷ child false none ∷ child false none ∷ root ∷ [])
       ≡ refused 10 0 0 ∷ done 48 1 2 0 ∷ done 48 1 2 0 ∷ done 28 1 1 0 ∷ []
   pub bad-list : answers (tree 2 16 none) (change (setList 0 (some [])) ∷ root ∷ []) ≡ refused 1 2 0 ∷ done 28 1 1 0 ∷ []
-  pub bad-owner : answers (tree 2 16 none) (change (setOwners 0 (creator 0) system) ∷ root ∷ []) ≡ refused 6 0 0 ∷ done 28 1 1 0 ∷ []
+  pub bad-owner :
+      answers (tree 2 16 none) (change (setOwners 0 system (creator 1)) ∷ change (setOwners 0 (creator 0) system) ∷ root ∷ owned (creator 0) system ∷ owned system (creator 1) ∷ [])
+      ≡ refused 6 0 0 ∷ refused 6 0 0 ∷ done 28 1 1 0 ∷ refused 6 0 0 ∷ refused 6 0 0 ∷ []
+  -- a new group, of 16 bytes, in the place of creator group
+  pub group-set :
+      answers (tree 2 16 none) (change (setOwners 0 system group-16) ∷ folder none false (some (bytes 0x1C 1 (group-entry (creator 1) ∷ []))) ∷ [])
+      ≡ done 32 1 1 0 ∷ done 28 1 1 0 ∷ []
   -- 8: a list given of 1,024 bytes is done and one of 1,028 refused; a container below it would have a list of over 1,024
   pub given-long :
       answers (tree 2 16 none) (folder none false (some (long-list 4)) ∷ []) ≡ refused 8 0 0 ∷ []
@@ -150,6 +169,7 @@ worked =
       limit-reached = refl;
       bad-list = refl;
       bad-owner = refl;
+      group-set = refl;
       given-long = refl;
       computed-long = refl;
       told-long = refl;
