@@ -19,7 +19,8 @@ use Rattle.inherit.specs.declared.copies.Pass.the-variants.{First, Secon
 use Rattle.inherit.specs.declared.Computed.the-variants.{Present, Absent, Refused}
 use Rattle.inherit.specs.Asked.{Given}
 use Rattle.inherit.specs.Last.{resolved}
-use Rattle.inherit.specs.Compute.{revFor, sizeFor, withRoom, bytesFor, written, Ends}
+use Rattle.inherit.specs.Compute.{revFor, sizeFor, withRoom, bytesFor, written}
+use Rattle.inherit.specs.Inner.Ending.{Ends}
 use Rattle.inherit.specs.Inner.Emit.{takesBy, flagsBy, emitOf, emitAll, measureOf}
 use Rattle.inherit.specs.Inner.Plan.{gathered, resultBy}
 use Rattle.inherit.proofs.Emits.{flatten-append}

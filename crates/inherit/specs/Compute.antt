@@ -121,8 +121,3 @@ pub record Tells (r : Computed) (v : Values) : Type 0 where
 pub record Answers (a : Asked) (out : List ℕ) (r : Computed) (after : List ℕ) : Type 0 where
   pub answer : Tells r (computeOf a (length out))
   pub buffer : after ≡ outOf a out
-
--- the same of a result, for which there may be room
-pub record Ends (x : Result) (out : List ℕ) (r : Computed) (after : List ℕ) : Type 0 where
-  pub answer : Tells r (withRoom (length out) x)
-  pub buffer : after ≡ written (withRoom (length out) x) (bytesFor x) out

@@ -2,3 +2,4 @@
 pub mod Emit
 pub mod Plan
 pub mod Source
+pub mod Ending

@@ -8,7 +8,7 @@ ghost use Rattle.list.specs.Bytes.{front};
 ghost use Rattle.list.specs.List.{headBytes};
 ghost use Rattle.inherit.specs.Inner.Emit.{givenBy, emitted, measureOf};
 ghost use Rattle.inherit.specs.Inner.Plan.{gathered, onward, resultBy, Good, Ready};
-ghost use Rattle.inherit.specs.Compute.{Ends};
+ghost use Rattle.inherit.specs.Inner.Ending.{Ends};
 use crate::Computed;
 use crate::branch::Plan;
 use crate::copies::Pass;

@@ -8,7 +8,8 @@ use lib.ListN.{length}
 use borrow.Author.Tests.{le-leb}
 use Rattle.list.specs.Order.{need}
 use Rattle.list.specs.Entry.{Family, entryOf, kindOk, flagsOk, tailOk, kindOf, sizeOf, flagsOf, headOf, wordOf, sidAt, sidLenOf, sidEnd, fieldsOf}
-use Rattle.list.specs.Good.{Begun, Sound}
+use Rattle.list.specs.Good.{Sound}
+use Rattle.list.specs.Inner.Begins.{Begun}
 use Rattle.list.specs.declared.entries.Entry.{Entry}
 use Rattle.list.specs.declared.entries.Checked.{Checked}
 use Rattle.list.specs.declared.entries.Checked.the-variants.{Good, Bad}

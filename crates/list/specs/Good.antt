@@ -8,13 +8,6 @@ use Rattle.list.specs.Bytes.{le}
 use Rattle.list.specs.Entry.{Family, kindOk, flagsOk, tailOk, kindOf, sizeOf, flagsOf, headOf, wordOf, sidAt, sidLenOf, sidEnd, middleOf, sidOf, tailOf}
 use Rattle.list.specs.List.{revOk, revOf, countOf, entriesEnd}
 
--- t passes (a) to (c)
-pub record Begun (f : Family) (rev : ℕ) (t : List ℕ) : Type 0 where
-  pub four : 4 ≤ length t
-  pub within : sizeOf t ≤ length t
-  pub kind : kindOk f (kindOf t) rev ≡ true
-  pub flags : flagsOk f (flagsOf t) ≡ true
-
 -- t begins with a good entry
 pub record Sound (f : Family) (rev : ℕ) (t : List ℕ) : Type 0 where
   pub four : 4 ≤ length t

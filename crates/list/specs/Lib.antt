@@ -5,3 +5,4 @@ pub mod Entry
 pub mod List
 pub mod Answer
 pub mod Good
+pub mod Inner

@@ -3,7 +3,7 @@ ghost use mathlib.Core.Path.{_≡_};
 ghost use Prim.Native.Nat.{ℕ, _+_, _≤_};
 ghost use lib.ListN.{length};
 ghost use Rattle.list.specs.Entry.{access, kindOk, objectKind, headOf, sizeOf, wordAfter, entryOf};
-ghost use Rattle.list.specs.Good.{Begun};
+ghost use Rattle.list.specs.Inner.Begins.{Begun};
 use crate::identities::sid_at;
 use crate::numbers::half_at;
 use crate::numbers::word_at;

@@ -15,16 +15,15 @@ use Rattle.list.proofs.Tests.{both-true}
 use Rattle.list.proofs.Writes.{front-all}
 use Rattle.inherit.specs.Asked.{MaybeList}
 use Rattle.inherit.specs.Compute.{ruleOk}
-use Rattle.tree.specs.Model.{Object, Tree, listOf, objectsOf, begun as begun-tree, after, shortIf, limitsOk}
+use Rattle.tree.specs.Model.{Object, Tree, listOf, objectsOf, begun as begun-tree, after, accepted, shortIf, limitsOk}
 use Rattle.tree.specs.Shown.{Request, settingsFrom, meant, listsIn, callOn, playedOn}
 use Rattle.tree.specs.declared.Answer.{Answer}
 use Rattle.tree.specs.Room.{emptyRoom}
 use Rattle.tree.specs.Formed.{formed}
 use Rattle.list.specs.Order.{need}
-use Rattle.tree.specs.Calls.{Promised, readableTo, startOk, startTo}
+use Rattle.tree.specs.Calls.{Promised, answerValues, readableTo, startOk, startTo}
 use Rattle.tree.proofs.Lays.{length-settings}
 use Rattle.tree.proofs.Modelled.{objects-length}
-use Rattle.tree.proofs.Played.{accepted}
 use Rattle.tree.proofs.Demand3.{Shows, demand3, call-keeps}
 use Rattle.script.proofs.Listings.{lists-length, lists-at}
 use Rattle.script.specs.declared.records.Found.{Found}
@@ -37,11 +36,11 @@ use Rattle.script.specs.Play.{mapping, began, beginTo, fresh, Ending, Li
 -- ---- the room
 
 -- the start of a script's tree is accepted
-start-done : (r : List ℕ) → length r ≡ 55400 → accepted (startTo began r .answer) ≡ true
+start-done : (r : List ℕ) → length r ≡ 55400 → accepted (answerValues (startTo began r .answer)) ≡ true
 unfolding startTo need readableTo shortIf startOk limitsOk ruleOk
 start-done r h = rw h refl
 
-pub begun : accepted (beginTo (replicate 55400 0) .answer) ≡ true
+pub begun : accepted (answerValues (beginTo (replicate 55400 0) .answer)) ≡ true
 unfolding beginTo
 begun = start-done (replicate 55400 0) (length-replicate {A = ℕ} 55400 0)
 

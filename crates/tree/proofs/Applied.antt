@@ -108,10 +108,10 @@ module _ (f : ℕ → List ℕ) (c : ℕ) (u : List ℕ) where
   unfolding stepOk againOk
   step-facts h = by (eqb (stepTag u) 1) refl h
     where
-      by : (b : Bool) → eqb (stepTag u) 1 ≡ b → cond b (ltb 0 c && eqb (stepObject u) (c - 1)) (eqb (stepTag u) 2 && againOk f c u) ≡ true → Adds c u ⊎ Again f c u
+      by : (b : Bool) → eqb (stepTag u) 1 ≡ b → cond b (eqb (stepObject u + 1) c) (eqb (stepTag u) 2 && againOk f c u) ≡ true → Adds c u ⊎ Again f c u
       by true e k =
-          let p = both-true _ _ k in
-          inl (record { tag = eqb-true _ _ e; some = ltb-true _ _ (p .0); number = eqb-true _ _ (p .1) })
+          let n = eqb-true (stepObject u + 1) c k in
+          inl (record { tag = eqb-true _ _ e; some = omega arith; number = omega arith })
       by false e k =
           let p = both-true _ _ k in
           let q = both-true _ _ (p .1) in
@@ -120,7 +120,7 @@ module _ (f : ℕ → List ℕ) (c : ℕ) (u : List ℕ) where
 
   pub step-add : Adds c u → stepOk f c u ≡ true
   unfolding stepOk
-  step-add a = rw (eq-eqb _ _ (a .tag), lt-ltb _ _ (a .some)) (eq-eqb _ _ (a .number))
+  step-add a = rw (eq-eqb _ _ (a .tag)) (eq-eqb (stepObject u + 1) c (omega (arith, a .some, a .number)))
 
   pub step-again : Again f c u → stepOk f c u ≡ true
   unfolding stepOk againOk

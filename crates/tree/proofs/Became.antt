@@ -130,7 +130,7 @@ module _
   unfolding reworkedWith
   settled-as o e =
       subst (λ (x : Option (List ℕ)). Linked n (written i at b n w₁) x) e
-      (linked n (written i at b n w₁) (omega (arith, written-size)))
+      (linked n (written i at b n w₁) (omega arith) (omega (arith, written-size)))
 
   settled-became : (m : ℕ) (g : ℕ → List ℕ) → keptSteps w₁ ≡ m → ((j : ℕ) → j < m → step (objectLimit w) j w₁ ≡ g j)
       → (w₃ : List ℕ) → reworkedWith (ownAt i + at) b n w₁ ≡ some w₃ → Became w w₃ n (upd i (putAt at b (ownData i w)) (λ j. ownData j w)) m g

@@ -339,9 +339,9 @@ follows-all b r h [] = follows-start b r h
 follows-all b r h (q ∷ qs) = follows-call (follows-all b r h qs) q
 
 -- the theorem
-pub demand3 : (b : Settings) (r : List ℕ) → accepted (startTo b r .answer) ≡ true → (qs : List Request)
-    → Shows (length r) (playedOn qs (startTo b r .bytes)) (Model.after (Model.begun (settingsFrom b)) (map (meant (length r)) qs))
-demand3 b r h qs = T (follows-all b r h qs)
+pub demand3 : (t : Settings) (r : List ℕ) → Model.accepted (answerValues (startTo t r .answer)) ≡ true → (qs : List Request)
+    → Shows (length r) (playedOn qs (startTo t r .bytes)) (Model.after (Model.begun (settingsFrom t)) (map (meant (length r)) qs))
+demand3 t r h qs = T (follows-all t r (sym (accepted-number (startTo t r .answer) (start-numbered t r)) ∙ h) qs)
 
 -- every call leaves a well-formed room well formed, reached by calls or not
 pub call-keeps : (r : List ℕ) → formed r ≡ true → (q : Request) → formed (callOn q r .bytes) ≡ true
@@ -349,7 +349,7 @@ unfolding callOn playedOn callTo
 call-keeps r f (start b) = by (accepted (startTo b r .answer)) refl
   where
     by : (x : Bool) → accepted (startTo b r .answer) ≡ x → formed (startTo b r .bytes) ≡ true
-    by true h = demand3 b r h [] .well
+    by true h = T (follows-all b r h []) .well
     by false h = rw (start-stays b r h) f
 call-keeps r f (change c) = subst (λ (o : Outcome). formed (o .bytes) ≡ true) (call-change c r) (keeps r f (edit c) .well)
 call-keeps r f undo = keeps r f take-back .well

@@ -10,7 +10,8 @@ use native.Mathlib.Nat.{zero-min, min-zero, suc-min-suc, not-suc-le-zero, le-of-
 use native.Mathlib.Omega.{arith}
 use lib.ListN.{length, take}
 use lib.Seq.{length-take-le}
-use Rattle.tree.specs.General.{bind, isSome, orElse, rest}
+use Rattle.tree.specs.General.{bind, isSome, rest}
+use Rattle.tree.specs.Inner.Else.{orElse}
 use Rattle.tree.proofs.History.{Call, edit, undo, Rules, Lawful, State, Past, settled, edited, undone, after, start}
 use Rattle.tree.proofs.History.{run, replay, afresh, noted, unnoted, next, remains, positive, accepts}
 

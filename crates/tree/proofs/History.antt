@@ -6,7 +6,8 @@ use mathlib.Core.Option.{Option, none, some}
 use mathlib.Core.Bool.{Bool, true, false}
 use mathlib.Core.List.{List, [], _∷_}
 use lib.ListN.{take}
-use Rattle.tree.specs.General.{bind, isSome, orElse, rest}
+use Rattle.tree.specs.General.{bind, isSome, rest}
+use Rattle.tree.specs.Inner.Else.{orElse}
 
 -- a change, or an undo
 pub data Call (C : Type 0) : Type 0 where

@@ -18,7 +18,8 @@ use Rattle.list.proofs.Tests.{both-true, off}
 use Rattle.inherit.specs.Asked.{MaybeList}
 use Rattle.inherit.specs.Compute.{ruleOk}
 use Rattle.tree.specs.Model.{Settings, shortIf, limitsOk}
-use Rattle.tree.specs.General.{isSome, orElse, tab}
+use Rattle.tree.specs.General.{isSome, tab}
+use Rattle.tree.specs.Inner.Else.{orElse}
 use Rattle.tree.specs.declared.Answer.the-variants.{Done, Refused}
 use Rattle.tree.specs.Held.{held, ownList}
 use Rattle.tree.specs.Room.{objectLimit, stepLimit, objects, keptSteps, roomFor, settings, settingsFor, ownData, slot, area, emptyRoom}

@@ -1,18 +1,19 @@
 -- Working a room's lists out again touches its slots alone, and is `inOrder` over the objects' own data: the same lists, and refused where that is.
 use mathlib.Core.Path.{_≡_, refl, sym, ap, _∙_}
-use mathlib.Core.Bool.{true}
+use mathlib.Core.Bool.{Bool, true, false, cond}
 use mathlib.Core.Logic.{_⊎_, inl, inr}
 use mathlib.Core.List.{List, [], _∷_, _++_}
 use mathlib.Core.Option.{Option, none, some}
 use Prim.Native.Nat.{ℕ, zero, suc, _+_, _≤_, _<_}
 use native.Mathlib.Omega.{arith}
 use lib.ListN.{length}
-use borrow.Author.Tests.{lt-ltb, le-ltb}
+use lib.Dec.{eqb}
+use borrow.Author.Tests.{eqb-true, lt-ltb, le-ltb}
 use Rattle.list.specs.Bytes.{part, putAt}
 use Rattle.list.proofs.Places.{split, length-put, part-put-same, part-put-before, part-put-after}
 use Rattle.inherit.specs.Asked.{MaybeList}
 use Rattle.tree.specs.General.{bind, tab}
-use Rattle.tree.specs.Held.{held, slotFor, slotOk, parentByteIn}
+use Rattle.tree.specs.Held.{held, slotFor, slotOk, parentByteIn, parentOf}
 use Rattle.tree.specs.Room.{ownAt, slotAt, settings, ownData, slot}
 use Rattle.tree.specs.Work.{computed, aboveIn, laid, rework, reworked}
 use Rattle.tree.proofs.Computed.{computed-length, computed-held, computed-slot}
@@ -44,14 +45,22 @@ in-order-next e n f =
     )
 
 -- the parent's list, among those worked out so far
-above-list : (n : ℕ) (w : List ℕ) → aboveIn n w ≡ parentList (tab n (λ i. held (slot i w))) (ownData n w)
+above-list : (n : ℕ) (w : List ℕ) → n ≤ 255 → aboveIn (parentOf (ownData n w)) n w ≡ parentList (tab n (λ i. held (slot i w))) (ownData n w)
 unfolding aboveIn parentList
-above-list n w =
-    let p = parentByteIn (ownData n w) in
-    let l = length-tab n (λ i. held (slot i w)) in
-    split n p
-    (λ h. rw (l, le-ltb p n h))
-    (λ h. rw (l, lt-ltb p n h, getD-tab n (λ i. held (slot i w)) p none h))
+above-list n w few = by (eqb p 255) refl
+  where
+    p : ℕ
+    p = parentByteIn (ownData n w)
+
+    l : length (tab n (λ i. held (slot i w))) ≡ n
+    l = length-tab n (λ i. held (slot i w))
+
+    by : (b : Bool) → eqb p 255 ≡ b → aboveIn (cond b none (some p)) n w ≡ parentList (tab n (λ i. held (slot i w))) (ownData n w)
+    by true e = let q = eqb-true p 255 e in rw (l, le-ltb p n (omega arith))
+    by false e =
+        split n p
+        (λ h. rw (l, le-ltb p n h))
+        (λ h. rw (l, lt-ltb p n h, getD-tab n (λ i. held (slot i w)) p none h))
 
 -- a slot put: a part that holds nothing of it stays
 slot-apart : (i a k : ℕ) (b w : List ℕ) → length b ≡ 1027 → slotAt i + 1027 ≤ length w → (a + k ≤ slotAt i) ⊎ (slotAt i + 1027 ≤ a)
@@ -70,20 +79,20 @@ module _ (n : ℕ) (w w₁ : List ℕ) (k : Worked n w w₁) where
   own-stays i = k .rest (ownAt i) 1184 (λ j h. split i j (λ q. inl (omega arith)) (λ q. inr (omega arith)))
 
   -- one turn of the order
-  turn : (x : Option MaybeList) → computed (settings w₁) (aboveIn n w₁) (ownData n w₁) ≡ x
+  turn : n ≤ 255 → (x : Option MaybeList) → computed (settings w₁) (aboveIn (parentOf (ownData n w₁)) n w₁) (ownData n w₁) ≡ x
       → inOrder (settings w) (tab (suc n) (λ i. ownData i w)) (suc n) ≡ bind x (λ o. some (tab n (λ i. held (slot i w₁)) ++ (o ∷ [])))
   unfolding bind
-  turn x e =
+  turn few x e =
       let f : computed (settings w) (parentList (tab n (λ i. held (slot i w₁))) (ownData n w)) (ownData n w) ≡ x =
-      rw (← settings-stay, ← own-stays n, ← above-list n w₁) e in
+      rw (← settings-stay, ← own-stays n, ← above-list n w₁ few) e in
       in-order-next (settings w) n (λ i. ownData i w) ∙ rw (k .lists, f)
 
 -- what is to be known of computed lists
-after-one : (n : ℕ) (w : List ℕ) → ownAt (suc n) ≤ length w → (w₁ : List ℕ) → Worked n w w₁
-    → (x : Option MaybeList) → computed (settings w₁) (aboveIn n w₁) (ownData n w₁) ≡ x → Linked (suc n) w (laid n w₁ x)
+after-one : (n : ℕ) (w : List ℕ) → n ≤ 255 → ownAt (suc n) ≤ length w → (w₁ : List ℕ) → Worked n w w₁
+    → (x : Option MaybeList) → computed (settings w₁) (aboveIn (parentOf (ownData n w₁)) n w₁) (ownData n w₁) ≡ x → Linked (suc n) w (laid n w₁ x)
 unfolding laid bind slot tab
-after-one n w h w₁ k none e = turn n w w₁ k none e
-after-one n w h w₁ k (some o) e =
+after-one n w few h w₁ k none e = turn n w w₁ k few none e
+after-one n w few h w₁ k (some o) e =
     let b = slotFor o in
     let w₂ = putAt (slotAt n) b w₁ in
     let lb : length b ≡ 1027 = computed-length _ _ _ o e in
@@ -94,7 +103,7 @@ after-one n w h w₁ k (some o) e =
     let ls : tab n (λ i. held (slot i w₁)) ≡ tab n (λ i. held (slot i w₂)) =
     tab-ext n (λ i. held (slot i w₁)) (λ i. held (slot i w₂)) (λ i q. ap held (sym (there i q))) in
     record {
-      lists = turn n w w₁ k (some o) e
+      lists = turn n w w₁ k few (some o) e
           ∙ ap (λ (x : List MaybeList). some (x ++ (o ∷ []))) ls
           ∙ ap (λ (x : MaybeList). some (tab n (λ i. held (slot i w₂)) ++ (x ∷ []))) (sym (ap held here ∙ computed-held _ _ _ o e));
       size = length-put (slotAt n) b w₁ (omega arith) ∙ l;
@@ -107,12 +116,12 @@ after-one n w h w₁ k (some o) e =
           (λ m. rw (there i m) (k .slots i m));
     }
 
-more : (n : ℕ) (w : List ℕ) → ownAt (suc n) ≤ length w → (o : Option (List ℕ)) → Linked n w o → Linked (suc n) w (bind o (rework n))
+more : (n : ℕ) (w : List ℕ) → n ≤ 255 → ownAt (suc n) ≤ length w → (o : Option (List ℕ)) → Linked n w o → Linked (suc n) w (bind o (rework n))
 unfolding bind rework
-more n w h none k = in-order-next (settings w) n (λ i. ownData i w) ∙ rw k
-more n w h (some w₁) k = after-one n w h w₁ k (computed (settings w₁) (aboveIn n w₁) (ownData n w₁)) refl
+more n w few h none k = in-order-next (settings w) n (λ i. ownData i w) ∙ rw k
+more n w few h (some w₁) k = after-one n w few h w₁ k (computed (settings w₁) (aboveIn (parentOf (ownData n w₁)) n w₁) (ownData n w₁)) refl
 
-pub linked : (n : ℕ) (w : List ℕ) → ownAt n ≤ length w → Linked n w (reworked n w)
+pub linked : (n : ℕ) (w : List ℕ) → n ≤ 256 → ownAt n ≤ length w → Linked n w (reworked n w)
 unfolding reworked tab inOrder
-linked zero w h = record { lists = refl; size = refl; rest = λ a k c. refl; slots = λ i q. absurd (omega arith) }
-linked (suc n) w h = more n w h (reworked n w) (linked n w (omega arith))
+linked zero w few h = record { lists = refl; size = refl; rest = λ a k c. refl; slots = λ i q. absurd (omega arith) }
+linked (suc n) w few h = more n w (omega arith) h (reworked n w) (linked n w (omega arith) (omega arith))

@@ -1,4 +1,4 @@
--- Trees worked by hand: the script of RULES 6.7, K7 to K9, a default list, undo, forgotten steps and refusals, computed over the model; and, by demand 3, what the
+-- Trees worked by hand: the script of RULES 6.7, K7 to K10, a default list, undo, forgotten steps and refusals, computed over the model; and, by demand 3, what the
 -- calls answer in any room.
 use mathlib.Core.Path.{_≡_, refl, sym, ap, ap₂, _∙_}
 use mathlib.Core.Bool.{Bool, true, false}
@@ -6,7 +6,7 @@ use mathlib.Core.List.{List, [], _∷_, _++_, map, flatten}
 use mathlib.Core.Option.{Option, none, some}
 use Prim.Native.Nat.{ℕ, _+_, _-_, _*_, _≤_}
 use lib.ListN.{length, replicate}
-use lib.Dec.{eqb, leb}
+use lib.Dec.{leb}
 use borrow.Author.Tests.{le-leb}
 use Rattle.list.specs.Identity.{creator}
 use Rattle.list.specs.Answer.{Values, done, refused}
@@ -14,14 +14,12 @@ use Rattle.inherit.specs.Asked.{MaybeList}
 use Rattle.inherit.proofs.Worked.{mapping, system, parentWith, inherited, listed as bytes}
 use Rattle.tree.specs.General.{bind, isSome, every, rest}
 use Rattle.tree.specs.Room.{roomFor}
-use Rattle.tree.specs.Calls.{list as Edit·list, mark as Edit·mark, add as Change·add, alter, startTo}
-use Rattle.tree.proofs.Played.{accepted}
+use Rattle.tree.specs.Calls.{list as Edit·list, mark as Edit·mark, add as Change·add, alter, startTo, answerValues}
 use Rattle.tree.specs.Model.{Settings, Object, object, fitting, listFrom, listOf, listed, Change, add, setList, setMark, setOwners, apply, objectsAfter, placed, shortIf, told, outcome, changeAnswer, limitsOk, startAnswer, Part, computed-list}
-use Rattle.tree.specs.Model.{own-list, other-data, bytesIf, parentByte, dataBytes, partBytes, partTold, readAnswer, readInto, Call, start, change, undo, read, counts, Tree, begun, objectsOf, undoAnswer, answer, takenOff, next, after}
+use Rattle.tree.specs.Model.{own-list, other-data, bytesIf, parentByte, dataBytes, partBytes, partTold, readAnswer, accepted, readInto, Call, start, change, undo, read, counts, Tree, begun, objectsOf, undoAnswer, answer, takenOff, next, after}
 use Rattle.tree.specs.Shown as Shown
 use Rattle.tree.specs.Shown.{settingsFrom, meant, alteration, changeMeant, answerTo, playedOn}
 use Rattle.tree.proofs.Modelled.{said}
-use Rattle.tree.proofs.Numbers.{accepted-number, start-numbered}
 use Rattle.tree.proofs.Demand3.{start-as, Shows, demand3}
 use Rattle.tree.proofs.Worked.{bytes-open, entries-open, lists-open, copies-open, last-open, compute-open}
 
@@ -59,12 +57,27 @@ group-16 = 0x01 ∷ 0x02 ∷ 0 ∷ 0 ∷ 0 ∷ 0 ∷ 0 ∷ 0x05 ∷ replicate 8 
 abbrev group-entry : List ℕ → List ℕ
 group-entry sid = 0x00 ∷ 0x00 ∷ 0x14 ∷ 0 ∷ 0x01 ∷ 0 ∷ 0 ∷ 0 ∷ sid
 
--- thirteen entries of 76 bytes and one for a SID of n numbers, all inherited below: with n = 3 a list of 1,024 bytes
-abbrev entry-for : ℕ → List ℕ
-entry-for n = (0x00 ∷ 0x03 ∷ (16 + 4 * n) ∷ 0 ∷ 0x01 ∷ 0 ∷ 0 ∷ 0 ∷ 0x01 ∷ n ∷ []) ++ replicate (6 + 4 * n) 0
+-- thirteen entries of 76 bytes and one for a SID of n numbers, all handed down: with n = 3 a list of 1,024 bytes
+abbrev entry-for : ℕ → ℕ → List ℕ
+entry-for flags n = (0x00 ∷ flags ∷ (16 + 4 * n) ∷ 0 ∷ 0x01 ∷ 0 ∷ 0 ∷ 0 ∷ 0x01 ∷ n ∷ []) ++ replicate (6 + 4 * n) 0
+
+abbrev list-with : ℕ → ℕ → List ℕ
+list-with flags n = (0x02 ∷ 0 ∷ (4 * n - 12) ∷ 0x04 ∷ 14 ∷ 0 ∷ 0 ∷ 0 ∷ []) ++ (flatten (replicate 13 (entry-for flags 15)) ++ entry-for flags n)
 
 abbrev pub long-list : ℕ → List ℕ
-long-list n = (0x02 ∷ 0 ∷ (4 * n - 12) ∷ 0x04 ∷ 14 ∷ 0 ∷ 0 ∷ 0 ∷ []) ++ (flatten (replicate 13 (entry-for 15)) ++ entry-for n)
+long-list n = list-with 0x03 n
+
+-- the same, all inherited
+abbrev inherited-list : ℕ → List ℕ
+inherited-list n = list-with 0x10 n
+
+-- a root of such an owner, with such a list
+abbrev changed-root : List ℕ → List ℕ → Call
+changed-root owner list =
+    change (add (record { parent = none; container = true; mark = false; type = replicate 16 0; owner = owner; group = system; list = some list }))
+
+abbrev settings : ℕ → ℕ → ℕ → MaybeList → Settings
+settings objects steps rule default = record { object-limit = objects; step-limit = steps; rule = rule; mapping = mapping; default = default }
 
 -- what calls answer, the latest first, and object i's list after them
 unfoldable pub answers : Tree → List Call → List Values
@@ -121,11 +134,29 @@ pub record Worked : Type 0 where
   pub group-set :
       answers (tree 2 16 none) (change (setOwners 0 system group-16) ∷ folder none false (some (bytes 0x1C 1 (group-entry (creator 1) ∷ []))) ∷ [])
       ≡ done 32 1 1 0 ∷ done 28 1 1 0 ∷ []
-  -- 8: a list given of 1,024 bytes is done and one of 1,028 refused; a container below it would have a list of over 1,024
-  pub given-long :
-      answers (tree 2 16 none) (folder none false (some (long-list 4)) ∷ []) ≡ refused 8 0 0 ∷ []
+  -- 8: a list given of 1,024 bytes is done and one of 1,028 refused, also where all its entries have ID, so that none would be in the computed list; a container below
+  -- would have a list of over 1,024
+  pub given-long : answers (tree 2 16 none) (folder none false (some (long-list 4)) ∷ []) ≡ refused 8 0 0 ∷ []
+  pub given-inherited :
+      answers (tree 2 16 none) (change (setList 0 (some (inherited-list 4))) ∷ folder none false (some (inherited-list 3)) ∷ folder none false (some (inherited-list 4)) ∷ [])
+      ≡ refused 8 0 0 ∷ done 8 1 0 0 ∷ refused 8 0 0 ∷ []
   pub computed-long : answers (tree 2 16 none) (child false none ∷ folder none false (some (long-list 3)) ∷ []) ≡ refused 8 0 0 ∷ done 1024 1 14 0 ∷ []
   pub told-long : told none ≡ refused 8 0 0
+  -- the order: a list cut short before a placeholder, a placeholder before a list of over 1,024 bytes
+  pub in-order :
+      answers (tree 2 16 none) (changed-root (creator 0) [] ∷ changed-root (creator 0) (long-list 4) ∷ [])
+      ≡ refused 1 2 0 ∷ refused 6 0 0 ∷ []
+  -- no object stands below what is no container; reading one that doesn't stand
+  pub no-container :
+      answers (tree 2 16 none) (child false none ∷ change (add (record { parent = none; container = false; mark = false; type = replicate 16 0; owner = system; group = system; list = none })) ∷ [])
+      ≡ refused 9 0 0 ∷ done 0 0 0 0 ∷ []
+  pub no-reading : answers (tree 2 16 none) (read own-list 1 [] ∷ read computed-list 0 [] ∷ root ∷ []) ≡ refused 9 0 0 ∷ refused 8 0 0 ∷ done 28 1 1 0 ∷ []
+  -- starts: limits of 0, 65 and 64, rule 3, too little room, a default list cut short, one of 1,028 bytes and one of 1,024
+  pub starts :
+      map (λ (x : Settings × Bool). startAnswer (x .0) (x .1))
+      ((settings 0 0 2 none, true) ∷ (settings 65 0 2 none, true) ∷ (settings 64 65 2 none, true) ∷ (settings 64 64 2 none, true) ∷ (settings 1 0 3 none, true) ∷ (settings 1 0 2 none, false)
+      ∷ (settings 1 0 2 (some []), true) ∷ (settings 1 0 2 (some (long-list 4)), true) ∷ (settings 1 0 2 (some (long-list 3)), true) ∷ [])
+      ≡ refused 12 0 0 ∷ refused 12 0 0 ∷ refused 12 0 0 ∷ done 0 0 0 0 ∷ refused 12 0 0 ∷ refused 12 0 0 ∷ refused 1 3 0 ∷ refused 8 0 0 ∷ done 0 0 0 0 ∷ []
   -- what is read back of the root: its own list, its other data; and how many objects and steps there are
   pub own-read : answers (tree 2 16 none) (read own-list 0 (replicate 28 0) ∷ read own-list 0 (replicate 27 0) ∷ root ∷ []) ≡ done 28 1 1 0 ∷ refused 8 0 0 ∷ done 28 1 1 0 ∷ []
   pub data-read :
@@ -172,7 +203,12 @@ worked =
       group-set = refl;
       given-long = refl;
       computed-long = refl;
+      given-inherited = refl;
       told-long = refl;
+      in-order = refl;
+      no-container = refl;
+      no-reading = refl;
+      starts = refl;
       own-read = refl;
       data-read = refl;
       data-order = refl;
@@ -188,7 +224,7 @@ unfoldable pub answersOn : List Shown.Request → List ℕ → List Values
 answersOn [] r = []
 answersOn (q ∷ qs) r = answerTo q (playedOn qs r) ∷ answersOn qs r
 
-all-answered : (b : Settings) (r : List ℕ) → accepted (startTo b r .answer) ≡ true → (qs : List Shown.Request)
+all-answered : (b : Settings) (r : List ℕ) → accepted (answerValues (startTo b r .answer)) ≡ true → (qs : List Shown.Request)
     → answersOn qs (startTo b r .bytes) ≡ answers (begun (settingsFrom b)) (map (meant (length r)) qs)
 unfolding answersOn answers
 all-answered b r h [] = refl
@@ -201,10 +237,8 @@ begin default = record { object-limit = 3; step-limit = 16; rule = 2; mapping = 
 abbrev Good : MaybeList → Type 0
 Good d = startAnswer (settingsFrom (begin d)) true ≡ done 0 0 0 0
 
-begins : (d : MaybeList) (r : List ℕ) → roomFor 3 16 ≤ length r → Good d → accepted (startTo (begin d) r .answer) ≡ true
-begins d r h g =
-    sym (accepted-number (startTo (begin d) r .answer) (start-numbered (begin d) r))
-    ∙ ap (λ (v : Values). eqb (v .number) 0) {y = done 0 0 0 0} (start-as (begin d) r ∙ started-as)
+begins : (d : MaybeList) (r : List ℕ) → roomFor 3 16 ≤ length r → Good d → accepted (answerValues (startTo (begin d) r .answer)) ≡ true
+begins d r h g = ap (λ (v : Values). accepted v) {y = done 0 0 0 0} (start-as (begin d) r ∙ started-as)
   where
     started-as : startAnswer (settingsFrom (begin d)) (leb (roomFor 3 16) (length r)) ≡ done 0 0 0 0
     started-as = rw (le-leb (roomFor 3 16) (length r) h) g

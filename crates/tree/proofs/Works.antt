@@ -1,6 +1,6 @@
 -- Working one object's list out, and those of all, as the code goes about it.
 use mathlib.Core.Path.{_≡_, refl, sym, ap, ap₂, subst, _∙_}
-use mathlib.Core.Bool.{Bool, true, false, not}
+use mathlib.Core.Bool.{Bool, true, false, not, cond}
 use mathlib.Core.List.{List, []}
 use mathlib.Core.Option.{Option, none, some}
 use Prim.Native.Nat.{ℕ, zero, suc, _+_, _-_, _≤_, _<_}
@@ -10,7 +10,7 @@ use native.Mathlib.Omega.{arith}
 use lib.ListN.{length, drop}
 use lib.Seq.{take-at}
 use lib.Dec.{eqb}
-use borrow.Author.Tests.{lt-ltb, le-ltb, not-true}
+use borrow.Author.Tests.{ne-eqb, lt-ltb, le-ltb, not-true}
 use Rattle.list.specs.Bytes.{le, part, putAt}
 use Rattle.inherit.specs.declared.Settings.{Settings}
 use Rattle.inherit.specs.declared.Mapping.{Mapping}
@@ -24,8 +24,9 @@ use Rattle.inherit.specs.Branch.{resultOf}
 use Rattle.inherit.specs.Compute.{computeOf, bytesFor, written, outOf, computedValues, isRefusal, askedBy, Answers}
 use Rattle.inherit.proofs.Planned.{given-lent}
 use Rattle.inherit.proofs.Theorems.{present-fits}
-use Rattle.tree.specs.General.{bind, isSome, orElse}
-use Rattle.tree.specs.Held.{hasList, bytesIn, held, slotFor, kindByte, markByte, typeOf, ownerOf, groupOf, ownSlot, ownList, parentByteIn}
+use Rattle.tree.specs.General.{bind, isSome}
+use Rattle.tree.specs.Inner.Else.{orElse}
+use Rattle.tree.specs.Held.{hasList, bytesIn, held, slotFor, kindByte, markByte, typeOf, ownerOf, groupOf, ownSlot, ownList, parentByteIn, parentOf}
 use Rattle.tree.specs.Room.{slotAt, settings, ruleOf, defaultSlot, defaultOf, mappingOf, ownData, slot}
 use Rattle.tree.specs.Inner.Asking.{settingsAsked}
 use Rattle.tree.specs.Work.{askedIn, computed, aboveIn, laid, rework, reworked}
@@ -81,19 +82,23 @@ module _ (e p b : List ℕ) where
       subst (λ (a : Asked). Answers a out r out₁) q h
 
 -- the parent's slot, or nothing
-pub above-slot : (i p : ℕ) (r s : List ℕ) → p ≡ parentByteIn (ownData i r) → p < i → s ≡ slot p r → held s ≡ aboveIn i r
+pub above-slot : (i p : ℕ) (r s : List ℕ) → p ≡ parentByteIn (ownData i r) → p < i → i < 256 → s ≡ slot p r → held s ≡ aboveIn (parentOf (ownData i r)) i r
 unfolding aboveIn
-above-slot i p r s e h f = rw (f, ← e, lt-ltb p i h) refl
+above-slot i p r s e h k f = rw (f, ← e, ne-eqb p 255 (λ z. omega arith), lt-ltb p i h) refl
 
-pub above-none : (i p : ℕ) (r : List ℕ) → p ≡ parentByteIn (ownData i r) → i ≤ p → held [] ≡ aboveIn i r
+pub above-none : (i p : ℕ) (r : List ℕ) → p ≡ parentByteIn (ownData i r) → i ≤ p → held [] ≡ aboveIn (parentOf (ownData i r)) i r
 unfolding aboveIn
-above-none i p r e h = rw (← e, le-ltb p i h) refl
+above-none i p r e h = rw (← e) (by (eqb p 255))
+  where
+    by : (b : Bool) → held [] ≡ aboveIn (cond b none (some p)) i r
+    by true = refl
+    by false = rw (le-ltb p i h) refl
 
 -- one object, by what the computation answers
-module _ (i : ℕ) (w out e b : List ℕ) (x : MaybeList) (r : Computed) (out₁ : List ℕ) (q : x ≡ aboveIn i w) (ee : e ≡ settings w) (eb : b ≡ ownData i w)
+module _ (i : ℕ) (w out e b : List ℕ) (x : MaybeList) (r : Computed) (out₁ : List ℕ) (q : x ≡ aboveIn (parentOf (ownData i w)) i w) (ee : e ≡ settings w) (eb : b ≡ ownData i w)
     (room : length out ≡ 1024) (h : Answers (askedIn e x b) out r out₁) where
   abbrev asked : Asked
-  asked = askedIn (settings w) (aboveIn i w) (ownData i w)
+  asked = askedIn (settings w) (aboveIn (parentOf (ownData i w)) i w) (ownData i w)
 
   asked-is : askedIn e x b ≡ asked
   asked-is = rw (q, ee, eb) refl

@@ -66,7 +66,7 @@ unfoldable pub toldAs : MaybeList → Answer
 toldAs none = Done 0 false 0
 toldAs (some s) = Done (length s) true (countOf s)
 
--- the calls that name an object: 13, 9
+-- the calls that name an object: 13, 9; x is what is lent to be changed, which a refusal leaves
 unfoldable pub onObject : List ℕ → ℕ → List ℕ → Outcome → Outcome
 onObject r i x rest = need (formed r) (refuse 13 0 0 x) (need (ltb i (objects r)) (refuse 9 0 0 x) rest)
 

@@ -34,13 +34,13 @@ placedIn f i (some p) = ltb p i && eqb (kindByte (f p)) 1
 unfoldable pub objectOk : List ℕ → ℕ → Bool
 objectOk r i = blockOk (ownData i r) && (placedIn (λ j. ownData j r) i (parentOf (ownData i r)) && slotOk (slot i r))
 
--- own data is put back: of an object that stands, good by itself, and alike
+-- a step of any change but add: it names an object that stands, its own data is good by itself, and agrees with that object's in what no change alters
 unfoldable pub againOk : (ℕ → List ℕ) → ℕ → List ℕ → Bool
 againOk f c u = ltb (stepObject u) c && (blockOk (stepData u) && alike (stepData u) (f (stepObject u)))
 
--- a step applies where c objects stand, whose own data f gives; and how many stand before it
+-- a step applies where c objects stand, whose own data f gives: that of an add names the last of them; and how many stand before it
 unfoldable pub stepOk : (ℕ → List ℕ) → ℕ → List ℕ → Bool
-stepOk f c u = cond (eqb (stepTag u) 1) (ltb 0 c && eqb (stepObject u) (c - 1)) (eqb (stepTag u) 2 && againOk f c u)
+stepOk f c u = cond (eqb (stepTag u) 1) (eqb (stepObject u + 1) c) (eqb (stepTag u) 2 && againOk f c u)
 
 abbrev pub standing : ℕ → List ℕ → ℕ
 standing c u = cond (eqb (stepTag u) 1) (c - 1) c

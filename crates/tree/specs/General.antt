@@ -13,11 +13,6 @@ unfoldable pub isSome : {A : Type 0} → Option A → Bool
 isSome none = false
 isSome (some a) = true
 
--- what is there, else a
-unfoldable pub orElse : {A : Type 0} → A → Option A → A
-orElse a none = a
-orElse a (some b) = b
-
 -- a test of each number below n
 unfoldable pub every : (ℕ → Bool) → ℕ → Bool
 every t zero = true

@@ -58,7 +58,7 @@ idOk f = leb (getD f 0 0) 68 && ordinary (idIn f)
 abbrev pub parentByteIn : List ℕ → ℕ
 parentByteIn b = getD b 0 0
 
--- a parent's number, or the number that says that there is none
+-- p as a parent: none where it is `none-is`, the number that says so
 abbrev pub parentIn : ℕ → ℕ → Option ℕ
 parentIn none-is p = cond (eqb p none-is) none (some p)
 

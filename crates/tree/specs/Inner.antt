@@ -2,3 +2,4 @@
 pub mod Faults
 pub mod Asking
 pub mod Heads
+pub mod Else

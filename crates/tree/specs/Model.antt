@@ -37,10 +37,11 @@ pub record Object : Type 0 where
   pub group : List ℕ
   pub list : MaybeList
 
--- object i, numbered from 0 in order of adding; a call that names one has tested that it stands, so that `no-object` is never seen
+-- in the place of an object that doesn't stand; a call that names one has tested that it stands, so that this is never seen
 abbrev pub no-object : Object
 no-object = record { parent = none; container = false; mark = false; type = []; owner = []; group = []; list = none }
 
+-- object i, numbered from 0 in order of adding
 abbrev pub object : List Object → ℕ → Object
 object os i = getD os i no-object
 
@@ -65,10 +66,11 @@ asked t above o =
       protected = o .mark;
     }
 
--- a result as a list of at most 1,024 bytes, or an absent one; none where it is longer
+-- at most 1,024 bytes
 abbrev pub short : List ℕ → Bool
 short s = leb (length s) 1024
 
+-- a result as a list of so many bytes, or an absent one; none where it is longer
 unfoldable pub fitting : Result → Option MaybeList
 fitting absent = some none
 fitting (holds es control) = cond (short (bytesFor (holds es control))) (some (some (bytesFor (holds es control)))) none
@@ -81,7 +83,8 @@ abbrev pub above : Option ℕ → (ℕ → Option MaybeList) → Option MaybeLis
 above none f = some none
 above (some p) f = f p
 
--- object i's computed list, by following parents up to the root, over at most `more` objects; none where one of these lists is too long
+-- object i's computed list, by following parents up to the root, over at most `more` objects; none where one of these lists is too long (that
+-- the root is reached is sure: a parent has a smaller number)
 unfoldable pub listFrom : Settings → List Object → ℕ → ℕ → Option MaybeList
 listFrom t os zero i = none
 listFrom t os (suc more) i = bind (above (object os i .parent) (listFrom t os more)) (listBelow t (object os i))
@@ -137,7 +140,7 @@ unfoldable pub shortIf : MaybeList → Bool
 shortIf none = true
 shortIf (some s) = short s
 
--- a list, possibly absent: its length, present or absent, entry count; 8 where it is too long
+-- a list, possibly absent: its length, present or absent, entry count; 8 where it is too long, which after calls none is
 unfoldable pub told : Option MaybeList → Values
 told none = refused 8 0 0
 told (some none) = done 0 0 0 0
@@ -199,11 +202,12 @@ bytesIf none = []
 bytesIf (some none) = []
 bytesIf (some (some s)) = s
 
--- parent (FF none), kind, mark, type, then owner and group, each with its length in front
+-- FF for no parent
 unfoldable pub parentByte : Option ℕ → ℕ
 parentByte none = 0xFF
 parentByte (some p) = p
 
+-- parent, kind, mark, type, then owner and group, each with its length in front
 unfoldable pub dataBytes : Object → List ℕ
 dataBytes o =
     (parentByte (o .parent) ∷ cond (o .container) 1 0 ∷ cond (o .mark) 1 0 ∷ [])
@@ -227,16 +231,17 @@ readAnswer t os x i room =
     (need (leb (length (partBytes t os x i)) room) (refused 8 0 0)
     (partTold t os x i))
 
--- the lent bytes afterwards: as they were where it is refused
+-- done
 abbrev pub accepted : Values → Bool
 accepted v = eqb (v .number) 0
 
+-- the lent bytes afterwards: as they were where it is refused
 unfoldable pub readInto : Settings → List Object → Part → ℕ → List ℕ → List ℕ
 readInto t os x i out = cond (accepted (readAnswer t os x i (length out))) (front (partBytes t os x i) out) out
 
 -- ---- calls one after another
 
--- a start that may have room enough; a change; undo; what is read back, with the bytes lent for it; the counts
+-- a start, and whether the lent room is enough; a change; undo; what is read back, with the bytes lent for it; the counts
 pub data Call : Type 0 where
   start : Settings → Bool → Call
   change : Change → Call
@@ -244,7 +249,7 @@ pub data Call : Type 0 where
   read : Part → ℕ → List ℕ → Call
   counts : Call
 
--- what the calls before come to: the settings, the accepted changes not since undone, the latest first, and how many of them are kept steps
+-- what the calls before come to: the settings, the accepted changes not since undone, the latest first, and how many of these, from the latest on, are kept steps
 pub record Tree : Type 0 where
   pub settings : Settings
   pub changes : List Change
@@ -273,7 +278,7 @@ begun t = record { settings = t; changes = []; kept = 0 }
 abbrev pub noted : Tree → Change → Tree
 noted s c = record { settings = s .settings; changes = c ∷ s .changes; kept = min (s .settings .step-limit) (suc (s .kept)) }
 
--- undo takes off the latest change not yet undone
+-- undo takes off the latest change not yet undone, where k steps are kept
 unfoldable pub takenOff : Tree → ℕ → Tree
 takenOff s zero = s
 takenOff s (suc k) = record { settings = s .settings; changes = rest (s .changes); kept = k }

@@ -36,7 +36,7 @@ objectsIn r = tab (objects r) (λ i. objectIn (ownData i r))
 unfoldable pub listsIn : List ℕ → List MaybeList
 listsIn r = tab (objects r) (λ i. held (slot i r))
 
--- the objects that stand once the latest kept step is taken back: that of an add is gone, any other has its own data as it was before
+-- where a step is kept, the objects that stand once the latest is taken back: that of an add is gone, any other has its own data as it was before
 unfoldable pub objectsBack : List ℕ → List Object
 objectsBack r = let u = step (objectLimit r) 0 r in
     cond (eqb (stepTag u) 1) (take (objects r - 1) (objectsIn r)) (set (objectsIn r) (stepObject u) (objectIn (stepData u)))
@@ -59,7 +59,7 @@ unfoldable pub changeMeant : ChangeGiven → Model.Change
 changeMeant (add new) = Model.add (objectFor new)
 changeMeant (alter i e) = alteration i e
 
--- what a start is given, whose masks are 32-bit numbers
+-- the settings that a start means; its masks are 32-bit numbers by the language, so that `word` changes none: it stands here so that demand 3 asks nothing of its calls
 abbrev pub word : ℕ → ℕ
 word m = m % 0x100000000
 

@@ -11,7 +11,7 @@ use Rattle.inherit.specs.Asked.{Asked, MaybeList, lent}
 use Rattle.inherit.specs.Branch.{resultOf}
 use Rattle.inherit.specs.Compute.{computeOf, bytesFor}
 use Rattle.tree.specs.General.{bind}
-use Rattle.tree.specs.Held.{held, slotFor, parentByteIn, kindByte, markByte, typeOf, ownerOf, groupOf, ownList}
+use Rattle.tree.specs.Held.{held, slotFor, parentOf, kindByte, markByte, typeOf, ownerOf, groupOf, ownList}
 use Rattle.tree.specs.Room.{slotAt, settings, ruleOf, mappingOf, defaultOf, ownData, slot}
 
 -- what the computation is asked for an object, from the settings e, its parent's computed list and its own data: auto inherit yes, default
@@ -40,9 +40,10 @@ taken v bytes = cond (eqb (v .number) 0) (some (lent (eqb (v .present) 1) bytes)
 unfoldable pub computed : List ℕ → MaybeList → List ℕ → Option MaybeList
 computed e p b = taken (computeOf (askedIn e p b) 1024) (bytesFor (resultOf access (askedIn e p b)))
 
--- the computed list of object i's parent, absent where it has none (FF); in a well-formed room any other parent has a smaller number
-unfoldable pub aboveIn : ℕ → List ℕ → MaybeList
-aboveIn i r = cond (ltb (parentByteIn (ownData i r)) i) (held (slot (parentByteIn (ownData i r)) r)) none
+-- what object i finds above it: its parent's computed list, nothing where it has none; in a well-formed room a parent has a smaller number
+unfoldable pub aboveIn : Option ℕ → ℕ → List ℕ → MaybeList
+aboveIn none i r = none
+aboveIn (some p) i r = cond (ltb p i) (held (slot p r)) none
 
 unfoldable pub laid : ℕ → List ℕ → Option MaybeList → Option (List ℕ)
 laid i r none = none
@@ -50,7 +51,7 @@ laid i r (some o) = some (putAt (slotAt i) (slotFor o) r)
 
 -- the room with object i's list worked out again; with those of the first n objects, parents first
 unfoldable pub rework : ℕ → List ℕ → Option (List ℕ)
-rework i r = laid i r (computed (settings r) (aboveIn i r) (ownData i r))
+rework i r = laid i r (computed (settings r) (aboveIn (parentOf (ownData i r)) i r) (ownData i r))
 
 unfoldable pub reworked : ℕ → List ℕ → Option (List ℕ)
 reworked zero r = some r

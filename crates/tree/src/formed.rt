@@ -137,10 +137,7 @@ fn step_ok(r: &[u8], c: usize, u: &[u8]) -> bool
 {
     let tag = byte_in(u, 0);
     if tag == 1 {
-        if c == 0 {
-            return false;
-        }
-        return number_in(u, 1) == c - 1;
+        return number_in(u, 1) + 1 == c;
     }
     if tag != 2 {
         return false;

@@ -5,7 +5,7 @@ ghost use Prim.Native.Nat.{_≤_};
 ghost use lib.ListN.{length};
 ghost use Rattle.list.specs.Bytes.{front};
 ghost use Rattle.inherit.specs.Asked.{lent};
-ghost use Rattle.tree.specs.Model.{shortIf as Calls·short};
+ghost use Rattle.tree.specs.Model.{shortIf as Model·short};
 ghost use Rattle.tree.specs.Held.{held};
 ghost use Rattle.tree.specs.Room.{roomFor, roomOf, emptyRoom};
 ghost use Rattle.tree.specs.Calls.{Says, Promised, answerValues, list as Edit·list, mark as Edit·mark, owners as Edit·owners, toldAs as Calls·told, objectFor, startOk, listBytes, dataOf, copied, startTo, addTo, alterTo, undoTo, listTo, ownTo, dataTo, countsTo};
@@ -132,7 +132,7 @@ fn empty(
     has: bool,
     default: &[u8],
 )
-    requires { ⌜ (objects ≤ 64) × ((steps ≤ 64) × ((Calls·short (lent has (now default)) ≡ true) × (roomFor objects steps ≤ length (now r)))) ⌝ }
+    requires { ⌜ (objects ≤ 64) × ((steps ≤ 64) × ((Model·short (lent has (now default)) ≡ true) × (roomFor objects steps ≤ length (now r)))) ⌝ }
     ensures { λ _. ⌜ now (r .exit) ≡ front (emptyRoom (record { object-limit = objects; step-limit = steps; rule = rule; mapping = m; default = lent has (now (default .entry)) })) (now (r .entry)) ⌝ }
 {
     r[0] = objects as u8;
@@ -187,13 +187,13 @@ pub fn add(
     parent: u32,
     container: bool,
     mark: bool,
-    kind: [u8; 16],
+    guid: [u8; 16],
     owner: &[u8],
     group: &[u8],
     has: bool,
     list: &[u8],
 ) -> Answer
-    ensures { λ a. ⌜ Promised (addTo (objectFor (record { parent = parent; container = container; mark = mark; type = kind; owner = now (owner .entry); group = now (group .entry); list = lent has (now (list .entry)) })) (now (room .entry))) a (now (room .exit)) ⌝ }
+    ensures { λ a. ⌜ Promised (addTo (objectFor (record { parent = parent; container = container; mark = mark; type = guid; owner = now (owner .entry); group = now (group .entry); list = lent has (now (list .entry)) })) (now (room .entry))) a (now (room .exit)) ⌝ }
 {
     let k = add_fault(room, parent as usize);
     if k != 0 {
@@ -223,7 +223,7 @@ pub fn add(
         parent as usize,
         container,
         mark,
-        kind,
+        guid,
         owner,
         group,
         has,

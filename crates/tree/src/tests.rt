@@ -1,7 +1,7 @@
 // The tests of what a call is given, each with the number of its refusal.
 ghost use mathlib.Core.Path.{_≡_};
 ghost use Rattle.inherit.specs.Asked.{lent};
-ghost use Rattle.tree.specs.Model.{shortIf as Calls·short};
+ghost use Rattle.tree.specs.Model.{shortIf as Model·short};
 ghost use Rattle.tree.specs.Held.{parentIn};
 ghost use Rattle.tree.specs.Calls.{nobody};
 ghost use Rattle.tree.specs.Inner.Faults.{objectFault, addFault, faultBy, faultOf};
@@ -45,7 +45,7 @@ pub(crate) fn fault_of(has: bool, s: &[u8]) -> Fault
 
 // At most 1,024 bytes, where it is given.
 pub(crate) fn short(has: bool, s: &[u8]) -> bool
-    ensures { λ b. ⌜ b ≡ Calls·short (lent has (now (s .entry))) ⌝ }
+    ensures { λ b. ⌜ b ≡ Model·short (lent has (now (s .entry))) ⌝ }
 {
     if has {
         return s.len() <= LONGEST_LIST;

@@ -5,9 +5,10 @@ ghost use mathlib.Core.Option.{some};
 ghost use Prim.Native.Nat.{_+_, _≤_, _<_};
 ghost use lib.ListN.{length};
 ghost use Rattle.inherit.specs.Compute.{Answers};
-ghost use Rattle.tree.specs.General.{isSome, orElse};
-ghost use Rattle.tree.specs.Held.{held};
-ghost use Rattle.tree.specs.Room.{ownAt, slotAt, mappingOf};
+ghost use Rattle.tree.specs.General.{isSome};
+ghost use Rattle.tree.specs.Inner.Else.{orElse};
+ghost use Rattle.tree.specs.Held.{held, parentOf};
+ghost use Rattle.tree.specs.Room.{ownAt, slotAt, mappingOf, ownData as Room·own};
 ghost use Rattle.tree.specs.Inner.Asking.{settingsAsked};
 ghost use Rattle.tree.specs.Work.{askedIn, aboveIn as Work·above, rework, reworked};
 ghost use Rattle.tree.specs.Calls.{reworkedWith};
@@ -86,7 +87,7 @@ fn compute_in<'a>(e: &'a [u8], p: &'a [u8], b: &'a [u8], out: &mut [u8]) -> Comp
 // The slot of object i's parent; nothing where it has none.
 fn above(r: &[u8], i: usize) -> &[u8]
     requires { ⌜ i < 256 ⌝ }
-    ensures { λ p. ⌜ held (now p) ≡ Work·above i (now (r .entry)) ⌝ }
+    ensures { λ p. ⌜ held (now p) ≡ Work·above (parentOf (Room·own i (now (r .entry)))) i (now (r .entry)) ⌝ }
 {
     let p = number_in(own(r, i), 0);
     if p < i {

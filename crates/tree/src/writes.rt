@@ -106,7 +106,7 @@ pub(crate) fn lay_new(
     parent: usize,
     container: bool,
     mark: bool,
-    kind: [u8; 16],
+    guid: [u8; 16],
     owner: &[u8],
     group: &[u8],
     has: bool,
@@ -114,12 +114,12 @@ pub(crate) fn lay_new(
 )
     requires { ⌜ parentByte (parentIn nobody parent) ≡ min 255 parent ⌝ }
     requires { ⌜ (length (now owner) ≤ 68) × ((length (now group) ≤ 68) × ((shortIf (lent has (now s)) ≡ true) × (length (now w) ≡ 1184))) ⌝ }
-    ensures { λ _. ⌜ now (w .exit) ≡ blockFor (objectFor (record { parent = parent; container = container; mark = mark; type = kind; owner = now (owner .entry); group = now (group .entry); list = lent has (now (s .entry)) })) ⌝ }
+    ensures { λ _. ⌜ now (w .exit) ≡ blockFor (objectFor (record { parent = parent; container = container; mark = mark; type = guid; owner = now (owner .entry); group = now (group .entry); list = lent has (now (s .entry)) })) ⌝ }
 {
     w[0] = least(255, parent) as u8;
     w[1] = bit(container);
     w[2] = bit(mark);
-    lay(w, TYPE_AT, &kind);
+    lay(w, TYPE_AT, &guid);
     lay_owners(w, OWNER_AT, owner, group);
     lay_slot(w, OWN_LIST_AT, has, s);
 }

@@ -15,7 +15,8 @@ use Rattle.inherit.specs.declared.Computed.{Computed}
 use Rattle.inherit.specs.declared.Computed.the-variants.{Refused}
 use Rattle.inherit.specs.Asked.{Asked, typesOk}
 use Rattle.inherit.specs.Branch.{resultOf}
-use Rattle.inherit.specs.Compute.{ordinary, ruleOk, withRoom, computeOf, bytesFor, written, askedBy, Tells, Answers, Ends}
+use Rattle.inherit.specs.Compute.{ordinary, ruleOk, withRoom, computeOf, bytesFor, written, askedBy, Tells, Answers}
+use Rattle.inherit.specs.Inner.Ending.{Ends}
 use Rattle.inherit.specs.Inner.Source.{sourceOf, Found}
 use Rattle.inherit.proofs.Sources.{still-good, still-bad, refuses}
 use Rattle.inherit.proofs.Refusals.{bad-rule, bad-parent, bad-creator, bad-default, bad-owner, bad-group, bad-types, all-good}

@@ -14,7 +14,8 @@ use Rattle.inherit.specs.declared.whole.Part.{Part}
 use Rattle.inherit.specs.declared.whole.Parts.{Parts}
 use Rattle.inherit.specs.Asked.{Asked, Given, givenIn}
 use Rattle.inherit.specs.Branch.{Result, resultOf}
-use Rattle.inherit.specs.Compute.{askedBy, Ends}
+use Rattle.inherit.specs.Compute.{askedBy}
+use Rattle.inherit.specs.Inner.Ending.{Ends}
 use Rattle.inherit.specs.Inner.Plan.{gathered, resultBy, Ready}
 use Rattle.inherit.proofs.Runs.{partsOf, held, front-long, four-most, parent-passes, ready, run-is, given-is}
 use Rattle.inherit.proofs.run.Statement.{statement}

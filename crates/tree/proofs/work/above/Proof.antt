@@ -24,7 +24,7 @@ returns c =
     let n = c .before .before .number-in in
     let a = c .before .before .before .before .before .args in
     above-slot (a .i) (n .result) (now (a .r)) (now (c .slot .result))
-    (n .ensures .0 ∙ ap (λ (x : List ℕ). getD x 0 0) (c .before .before .before .own .ensures)) (omega arith) (c .slot .ensures)
+    (n .ensures .0 ∙ ap (λ (x : List ℕ). getD x 0 0) (c .before .before .before .own .ensures)) (omega arith) (omega arith) (c .slot .ensures)
 
 sub-result : tie.Need-sub-result
 sub-result c = search needs
