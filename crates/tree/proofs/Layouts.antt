@@ -19,7 +19,8 @@ use Rattle.list.specs.Order.{need}
 use Rattle.tree.specs.declared.Answer.the-variants.{Done, Refused}
 use Rattle.tree.specs.Work as Work
 use Rattle.tree.specs.Work.{aboveIn, rework, reworked}
-use Rattle.tree.specs.Calls.{stepKept, stepGone, onReadingTo, readableTo, toldAs, onObject, reworkedWith, changed, stepTakenBack, changeEnds, undoEnds, startOk, startTo, list as Edit·list, mark as Edit·mark, owners, editAt, editBytes, tested, objectFor, addTo, alterTo, undoTo, refuse, listBytes, copied, listTo, ownTo, dataOf, dataTo, countsTo}
+use Rattle.tree.specs.Calls.{stepKept, stepGone, onReadingTo, readableTo, toldAs, onObject, reworkedWith, changed, stepTakenBack, changeEnds, undoEnds, startOk, startTo, list as Edit·list, mark as Edit·mark}
+use Rattle.tree.specs.Calls.{owners, editAt, editBytes, tested, objectFor, addTo, alterTo, undoTo, refuse, listBytes, copied, listTo, ownTo, dataOf, dataTo, countsTo}
 use Rattle.tree.specs.Shown.{settingsIn, settingsFrom, objectsIn, listsIn, objectsBack}
 use Rattle.tree.proofs.Trees.{plain, plain-list, long-list}
 use Rattle.tree.proofs.Worked.{bytes-open, entries-open, lists-open, copies-open, last-open, compute-open, tree-open}
