@@ -171,10 +171,11 @@ objectFor n =
       list = n .list;
     }
 
--- add: 13, 9, 10, 1 to 5, 6, 8
+-- an add puts all of own data, behind the n objects that stand
 abbrev pub addPut : Object → ℕ → Put
 addPut o n = record { tag = 1; object = n; place = 0; bytes = blockFor o; standing = n + 1 }
 
+-- add: 13, 9, 10, 1 to 5, 6, 8
 unfoldable pub addTo : Object → List ℕ → Outcome
 addTo o r =
     need (formed r) (refuse 13 0 0 r)
@@ -208,6 +209,7 @@ editBytes (list o) = slotFor o
 editBytes (mark m) = yes m ∷ []
 editBytes (owners o g) = idFor o ++ idFor g
 
+-- what such a change of object i puts, where n objects stand
 abbrev pub editPut : ℕ → Edit → ℕ → Put
 editPut i e n = record { tag = 2; object = i; place = editAt e; bytes = editBytes e; standing = n }
 
