@@ -10,6 +10,11 @@
 /* The number that came, for the tally. */
 typedef uint32_t Case(void);
 
+/* Lists with spare bytes that the case's call is handed, or gives back: counted where it is done. */
+extern unsigned spare_lists;
+/* Lists that pt_read took, in all cases: of 65,533 to 65,535 bytes, and whose spare bytes begin like an entry. */
+extern uint64_t long_lists, entry_lists;
+
 Case case_identity, case_read, case_compute, case_play;
 Case case_room, case_start, case_add, case_set_list, case_set_mark, case_set_owner, case_undo;
 Case case_list, case_own, case_data, case_counts;
@@ -17,9 +22,10 @@ Case case_list, case_own, case_data, case_counts;
 /* In lists.c, for both: */
 void lend_answer(void);
 void lend_identities(uint32_t spoilt, int list);            /* owner and group; list: one that is lent already, or -1 */
-void check_places(uint32_t most_control);                   /* the answer's places but for their meaning */
-void check_list_refusal(uint32_t which, int list);          /* a refusal of 1 to 5 is the reader's of the same list */
-void check_reads(const uint8_t *list, const uint32_t *told); /* a list that was given out reads as done */
+int is_list_refusal(void);                                  /* 1 to 5 */
+void check_places(uint32_t most_control, size_t end);       /* the answer's places; end: place 7 where it is done */
+void check_list_refusal(uint32_t which, int list);          /* a refusal of 1 to 5 is the reader's of the same list; list: -1 where none is given */
+void check_reads(const uint8_t *list, const uint32_t *told, int may_spare); /* a list that was given out reads as done */
 size_t choose_out(const uint32_t *probed);                  /* a length to lend: none, short, exact or plenty */
 void check_probed(const uint32_t *probed, size_t out_len);  /* the same call with plenty of room told the truth */
 

@@ -1,7 +1,9 @@
 /* Hands every call of the library random, cut, changed and well-formed bytes between guard pages, and checks that it reads and writes
- * nothing but what was lent, gives no answer outside document 01's table, and changes nothing that was lent where it refuses.
+ * nothing but what was lent, gives no answer outside document 01's table, changes nothing that was lent where it refuses, and doesn't look
+ * at spare bytes behind a list's entries.
  * Usage: hostile [CALLS [SEED]]. The same two numbers make the same calls. Ends with 1 at the first fault, and where a number that a
- * call can give came less often than it must. `hostile touch` touches a guard page itself, which must be seen as a fault. */
+ * call can give, or a list with spare bytes, came less often than it must. `hostile touch` touches a guard page itself, which must be
+ * seen as a fault. */
 #include <stdio.h>
 #include <stdlib.h>
 #include <string.h>
@@ -37,44 +39,58 @@ static struct {
     Case *run;
     uint32_t can_give;
     uint32_t least[NUMBERS];
-    uint64_t calls, came[NUMBERS];
+    uint32_t least_spare; /* done with a list that has spare bytes, handed in or given back; 0 where there is none to be had */
+    uint64_t calls, spare, came[NUMBERS];
 } calls[] = {
     {"pt_identity", 140, case_identity, DONE | CREATOR_OWNER_OR_GROUP | IDENTITY,
-     {[0] = 21000, [1] = 1800, [2] = 1300, [6] = 9600}, 0, {0}},
+     {[0] = 21000, [1] = 1800, [2] = 1300, [6] = 9600}, 0, 0, 0, {0}},
     {"pt_read", 250, case_read, DONE | LIST | NO_ROOM,
-     {[0] = 29000, [1] = 6600, [2] = 9000, [3] = 2600, [4] = 3300, [5] = 3200, [8] = 8300}, 0, {0}},
+     {[0] = 31000, [1] = 6500, [2] = 7800, [3] = 2400, [4] = 3000, [5] = 2900, [8] = 8300}, 9000, 0, 0, {0}},
     {"pt_compute", 170, case_compute, DONE | LIST | IDENTITY | TYPES_7 | NO_ROOM | RULE,
-     {[0] = 20000, [1] = 1700, [2] = 850, [3] = 260, [4] = 300, [5] = 280, [6] = 3300, [7] = 3900, [8] = 9300, [12] = 1700}, 0, {0}},
+     {[0] = 20000, [1] = 1700, [2] = 740, [3] = 230, [4] = 280, [5] = 270, [6] = 3200, [7] = 3900, [8] = 9300, [12] = 1700}, 5900, 0, 0, {0}},
     {"pt_room", 50, case_room, DONE | SOME_BYTES,
-     {[0] = 5300, [1] = 7100}, 0, {0}},
+     {[0] = 5300, [1] = 7100}, 0, 0, 0, {0}},
     {"pt_start", 35, case_start, DONE | LIST | NO_ROOM | RULE,
-     {[0] = 5300, [1] = 85, [2] = 120, [3] = 35, [4] = 45, [5] = 45, [8] = 70, [12] = 2700}, 0, {0}},
+     {[0] = 5300, [1] = 90, [2] = 110, [3] = 35, [4] = 45, [5] = 40, [8] = 80, [12] = 2700}, 610, 0, 0, {0}},
     {"pt_add", 60, case_add, DONE | LIST | IDENTITY | NO_ROOM | NO_OBJECT | FULL | NO_TREE,
-     {[0] = 4100, [1] = 120, [2] = 160, [3] = 45, [4] = 60, [5] = 60, [6] = 360, [8] = 65, [9] = 3500, [10] = 4200, [13] = 1600}, 0, {0}},
+     {[0] = 4100, [1] = 120, [2] = 150, [3] = 45, [4] = 55, [5] = 55, [6] = 360, [8] = 65, [9] = 3400, [10] = 4200, [13] = 1600}, 490, 0, 0, {0}},
     {"pt_set_list", 35, case_set_list, DONE | LIST | NO_ROOM | NO_OBJECT | NO_TREE,
-     {[0] = 5300, [1] = 150, [2] = 190, [3] = 55, [4] = 75, [5] = 60, [8] = 85, [9] = 1600, [13] = 970}, 0, {0}},
+     {[0] = 5300, [1] = 150, [2] = 180, [3] = 50, [4] = 60, [5] = 60, [8] = 95, [9] = 1600, [13] = 970}, 950, 0, 0, {0}},
     {"pt_set_mark", 35, case_set_mark, DONE | NO_ROOM | NO_OBJECT | NO_TREE,
-     {[0] = 5800, [8] = 50, [9] = 1600, [13] = 980}, 0, {0}},
+     {[0] = 5800, [8] = 50, [9] = 1600, [13] = 980}, 0, 0, 0, {0}},
     {"pt_set_owner", 35, case_set_owner, DONE | IDENTITY | NO_ROOM | NO_OBJECT | NO_TREE,
-     {[0] = 5400, [6] = 520, [8] = 50, [9] = 1600, [13] = 1000}, 0, {0}},
+     {[0] = 5400, [6] = 520, [8] = 50, [9] = 1600, [13] = 1000}, 0, 0, 0, {0}},
     {"pt_undo", 40, case_undo, DONE | NO_ROOM | NO_STEP | NO_TREE,
-     {[0] = 6400, [8] = 64, [11] = 2300, [13] = 1100}, 0, {0}},
+     {[0] = 6400, [8] = 64, [11] = 2300, [13] = 1100}, 0, 0, 0, {0}},
     {"pt_list", 30, case_list, DONE | NO_ROOM | NO_OBJECT | NO_TREE,
-     {[0] = 3500, [8] = 1600, [9] = 1400, [13] = 840}, 0, {0}},
+     {[0] = 3500, [8] = 1600, [9] = 1400, [13] = 840}, 0, 0, 0, {0}},
     {"pt_own", 30, case_own, DONE | NO_ROOM | NO_OBJECT | NO_TREE,
-     {[0] = 4000, [8] = 1100, [9] = 1400, [13] = 860}, 0, {0}},
+     {[0] = 4000, [8] = 1100, [9] = 1400, [13] = 850}, 490, 0, 0, {0}},
     {"pt_data", 30, case_data, DONE | NO_ROOM | NO_OBJECT | NO_TREE,
-     {[0] = 3200, [8] = 1800, [9] = 1400, [13] = 850}, 0, {0}},
+     {[0] = 3200, [8] = 1800, [9] = 1400, [13] = 850}, 0, 0, 0, {0}},
     {"pt_counts", 30, case_counts, DONE | NO_TREE,
-     {[0] = 6600, [13] = 820}, 0, {0}},
+     {[0] = 6600, [13] = 820}, 0, 0, 0, {0}},
     {"pt_play", 30, case_play, DONE | NO_ROOM,
-     {[0] = 4700, [8] = 2700}, 0, {0}},
+     {[0] = 4700, [8] = 2700}, 1450, 0, 0, {0}},
 };
 
 enum { CALLS = sizeof calls / sizeof *calls };
 
+/* What is counted over all calls, and how often it must come in 1,000,000. */
+static const struct {
+    const char *what;
+    const uint64_t *came;
+    uint32_t least;
+} totals[] = {
+    {"ranges lent for a second parameter", &lent_twice, 27000},
+    {"lists read of 65,533 to 65,535 bytes", &long_lists, 28},
+    {"lists read whose spare bytes begin like an entry", &entry_lists, 3500},
+};
+
+enum { TOTALS = sizeof totals / sizeof *totals };
+
 /* Runs of fewer calls are too short to ask how often each number came. */
-enum { MILLION = 1000000, FEWEST_ASKED = 100000, LEAST_LENT_TWICE = 27000 };
+enum { MILLION = 1000000, FEWEST_ASKED = 100000 };
 
 static int choose_call(void)
 {
@@ -97,12 +113,14 @@ static void run_one(void)
     uint32_t number;
 
     fault_call = calls[i].name;
+    spare_lists = 0;
     number = calls[i].run();
     if (number >= NUMBERS || !can_give(i, (int)number))
         fault("number %u isn't one of this call's", number);
     take_back();
     calls[i].calls++;
     calls[i].came[number]++;
+    calls[i].spare += number == 0 && spare_lists > 0;
 }
 
 /* Each number that a call can give is asked for, and no other. */
@@ -121,15 +139,18 @@ static void print_tally(void)
 {
     int i, number;
 
-    printf("how often each number came (pt_room: 0, or 1 for a size)\n");
+    printf("how often each number came (pt_room: 0, or 1 for a size), and 0 with spare bytes in a list\n");
     for (i = 0; i < CALLS; i++) {
         printf("%-12s %7llu calls:", calls[i].name, (unsigned long long)calls[i].calls);
         for (number = 0; number < NUMBERS; number++)
             if (can_give(i, number))
                 printf("  %d: %llu", number, (unsigned long long)calls[i].came[number]);
+        if (calls[i].least_spare)
+            printf("  spare: %llu", (unsigned long long)calls[i].spare);
         printf("\n");
     }
-    printf("%llu ranges lent for a second parameter\n", (unsigned long long)lent_twice);
+    for (i = 0; i < TOTALS; i++)
+        printf("%llu %s\n", (unsigned long long)*totals[i].came, totals[i].what);
 }
 
 /* How often something must come in this many calls: at least once. */
@@ -151,6 +172,17 @@ static int is_seldom(int i, int number, uint64_t made)
     return 0;
 }
 
+static int is_spare_seldom(int i, uint64_t made)
+{
+    uint64_t came = calls[i].spare, least = least_in(made, calls[i].least_spare);
+
+    if (calls[i].least_spare && came < least) {
+        printf("too seldom: %s had spare bytes %llu times, and must %llu times\n", calls[i].name, (unsigned long long)came, (unsigned long long)least);
+        return 1;
+    }
+    return 0;
+}
+
 /* How much came less often than it must; each is named. */
 static int count_seldom(uint64_t made)
 {
@@ -160,13 +192,16 @@ static int count_seldom(uint64_t made)
         printf("fewer than %d calls: how often each number came is not asked\n", FEWEST_ASKED);
         return 0;
     }
-    if (lent_twice < least_in(made, LEAST_LENT_TWICE)) {
-        printf("too seldom: a range was lent for a second parameter\n");
-        seldom++;
-    }
-    for (i = 0; i < CALLS; i++)
+    for (i = 0; i < TOTALS; i++)
+        if (*totals[i].came < least_in(made, totals[i].least)) {
+            printf("too seldom: %s\n", totals[i].what);
+            seldom++;
+        }
+    for (i = 0; i < CALLS; i++) {
         for (number = 0; number < NUMBERS; number++)
             seldom += is_seldom(i, number, made);
+        seldom += is_spare_seldom(i, made);
+    }
     return seldom;
 }
 

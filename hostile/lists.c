@@ -6,8 +6,11 @@
 #include "lend.h"
 #include "make.h"
 #include "cases.h"
+#include "spare.h"
 
 uint8_t plenty[LEND_MOST];
+unsigned spare_lists;
+uint64_t long_lists, entry_lists;
 
 static uint16_t any_row[65536];
 
@@ -17,12 +20,17 @@ void lend_answer(void)
     lent[ANSWER].may_change = 32;
 }
 
-/* The last twelve bytes of a list are often a SID. */
+/* The last twelve bytes of a list's entries are often a SID. */
 static int lend_list_end(int which, int list)
 {
-    if (list < 0 || lent[list].len < 20 || !chance(40))
+    size_t end;
+
+    if (list < 0 || !chance(40))
         return 0;
-    lend_part(which, list, lent[list].len - 12, 12);
+    end = entries_end(lent[list].before, lent[list].len);
+    if (end < 20)
+        return 0;
+    lend_part(which, list, end - 12, 12);
     return 1;
 }
 
@@ -36,12 +44,12 @@ void lend_identities(uint32_t spoilt, int list)
         lend(GROUP, make_identity(lent[GROUP].before, spoilt));
 }
 
-void check_places(uint32_t most_control)
+void check_places(uint32_t most_control, size_t end)
 {
     const uint32_t *a = answer();
 
-    if (a[7])
-        fault("place 7 is %u", a[7]);
+    if (a[7] != (a[0] ? 0 : end))
+        fault("number %u, place 7 is %u, not %zu", a[0], a[7], a[0] ? 0 : end);
     if (a[0] && (a[3] || a[4] || a[5] || a[6]))
         fault("refusal %u tells more: %u %u %u %u", a[0], a[3], a[4], a[5], a[6]);
     if ((!a[0] || a[0] >= PT_IDENTITY) && (a[1] || a[2]))
@@ -57,17 +65,19 @@ void check_list_refusal(uint32_t which, int list)
     const uint32_t *a = answer();
     uint32_t read[8];
 
+    if (list < 0)
+        fault("refusal %u of list %u, and none was given", a[0], a[1]);
     pt_read(lent[list].at, lent[list].len, any_row, 65536, read);
     if (a[1] != which || a[0] != read[0] || a[2] != read[2])
         fault("refusal %u of list %u at %u, but the reader says %u at %u of list %u", a[0], a[1], a[2], read[0], read[2], which);
 }
 
-static int is_list_refusal(void)
+int is_list_refusal(void)
 {
     return answer()[0] >= PT_HEADER && answer()[0] <= PT_SID;
 }
 
-void check_reads(const uint8_t *list, const uint32_t *told)
+void check_reads(const uint8_t *list, const uint32_t *told, int may_spare)
 {
     uint32_t read[8];
 
@@ -79,6 +89,8 @@ void check_reads(const uint8_t *list, const uint32_t *told)
     pt_read(list, told[3], any_row, 65536, read);
     if (read[0] || read[3] != told[3] || read[5] != told[5])
         fault("a list of %u bytes, %u entries reads as %u: %u bytes, %u entries", told[3], told[5], read[0], read[3], read[5]);
+    if (read[7] != entries_end(list, told[3]) || (!may_spare && read[7] != told[3]))
+        fault("a list of %u bytes, whose entries end at %u", told[3], read[7]);
 }
 
 size_t choose_out(const uint32_t *probed)
@@ -104,11 +116,11 @@ void check_probed(const uint32_t *probed, size_t out_len)
         if (a[0] != PT_ROOM)
             fault("%u bytes in %zu of room: number %u", probed[3], out_len, a[0]);
     } else if (memcmp(a, probed, 32)) {
-        fault("another answer with %zu bytes of room: %u, then %u", out_len, probed[0], a[0]);
+        fault("another answer with %zu bytes of room, or with spare bytes: %u, then %u", out_len, probed[0], a[0]);
     }
     lent[OUT].may_change = a[3];
     if (a[3] && memcmp(lent[OUT].at, plenty, a[3]))
-        fault("another result with %zu bytes of room", out_len);
+        fault("another result with %zu bytes of room, or with spare bytes", out_len);
 }
 
 static uint32_t expected_identity(const uint8_t *bytes, size_t len)
@@ -138,7 +150,7 @@ uint32_t case_identity(void)
 }
 
 /* The offsets are those of the list's own sizes. */
-static void check_row(const uint8_t *list, const uint16_t *row, size_t count, size_t len)
+static void check_row(const uint8_t *list, const uint16_t *row, size_t count)
 {
     size_t at = 8, i;
 
@@ -147,8 +159,20 @@ static void check_row(const uint8_t *list, const uint16_t *row, size_t count, si
             fault("entry %zu at %u, not at %zu", i, row[i], at);
         at += get16(list + at + 2);
     }
-    if (at != len)
-        fault("the entries end at %zu", at);
+}
+
+/* The same list without its spare bytes: all but the length is the same. */
+static void check_read_cut(const uint16_t *row, size_t row_len)
+{
+    const uint32_t *a = answer();
+    Bytes cut = without_spare(FIRST);
+    uint32_t read[8];
+
+    pt_read(cut.at, cut.len, any_row, row_len, read);
+    if (!read[0])
+        read[3] = a[3];
+    if (memcmp(a, read, 32) || (a[5] && memcmp(row, any_row, 2 * a[5])))
+        fault("%zu bytes read as %u at %u, and without spare bytes as %u at %u", lent[FIRST].len, a[0], a[2], read[0], read[2]);
 }
 
 static size_t choose_row(const uint8_t *list, size_t len)
@@ -164,10 +188,22 @@ static size_t choose_row(const uint8_t *list, size_t len)
     }
 }
 
+/* Whether the list reads as done with one entry more in its count. */
+static int has_spare_entry(void)
+{
+    static uint8_t more[65536];
+    uint32_t read[8];
+
+    memcpy(more, lent[FIRST].before, lent[FIRST].len);
+    put16(more + 4, get16(more + 4) + 1u);
+    pt_read(more, lent[FIRST].len, any_row, 65536, read);
+    return !read[0];
+}
+
 uint32_t case_read(void)
 {
     uint8_t *list = lent[FIRST].before;
-    size_t len = make_list(list, chance(4) ? 4000 : 600, 2), row_len = choose_row(list, len);
+    size_t len = make_list(list, chance(4) ? 4000 : 600, 2), row_len = choose_row(list, len), end = entries_end(list, len);
     uint16_t *row;
     const uint32_t *a;
 
@@ -177,7 +213,7 @@ uint32_t case_read(void)
     a = answer();
     row = (uint16_t *)(void *)lent[OUT].at;
     pt_read(lent[FIRST].at, len, row, row_len, answer());
-    check_places(0);
+    check_places(0, end);
     if (a[1])
         fault("the reader tells of list %u", a[1]);
     if (a[2] > len || (is_list_refusal() && a[0] != PT_HEADER && a[2] < 8) || (a[0] == PT_HEADER && a[2]))
@@ -187,7 +223,15 @@ uint32_t case_read(void)
     if (a[0] == PT_DONE) {
         if (a[3] != len || a[4] != 1 || a[5] != get16(list + 4) || a[5] > row_len)
             fault("length %u, present %u, count %u", a[3], a[4], a[5]);
-        check_row(list, row, a[5], len);
+        if (!end)
+            fault("done, but an entry can't be whole");
+        check_row(list, row, a[5]);
+        long_lists += len > 65532;
+    }
+    if (end && end < len) {
+        spare_lists++;
+        check_read_cut(row, row_len);
+        entry_lists += !a[0] && has_spare_entry();
     }
     lent[OUT].may_change = 2 * a[5];
     return a[0];
@@ -209,11 +253,13 @@ static void lend_compute(void)
     lend_answer();
 }
 
-static void compute(uint32_t rule, uint32_t settings, uint8_t *out, size_t out_len, uint32_t *to)
+static void compute(uint32_t rule, uint32_t settings, Bytes list(int), uint8_t *out, size_t out_len, uint32_t *to)
 {
-    pt_compute(rule, settings, (const uint32_t *)(const void *)lent[MAPPING].at, lent[FIRST].at, lent[FIRST].len, lent[SECOND].at,
-               lent[SECOND].len, lent[THIRD].at, lent[THIRD].len, lent[TYPES].at, lent[TYPES].len, lent[OWNER].at, lent[OWNER].len,
-               lent[GROUP].at, lent[GROUP].len, out, out_len, to);
+    Bytes parent = list(FIRST), creator = list(SECOND), default_ = list(THIRD);
+
+    pt_compute(rule, settings, (const uint32_t *)(const void *)lent[MAPPING].at, parent.at, parent.len, creator.at, creator.len,
+               default_.at, default_.len, lent[TYPES].at, lent[TYPES].len, lent[OWNER].at, lent[OWNER].len, lent[GROUP].at,
+               lent[GROUP].len, out, out_len, to);
 }
 
 /* From 6 on every present list reads as done; 12 comes before they are looked at. */
@@ -226,6 +272,7 @@ static void check_present_lists(uint32_t settings)
     for (list = FIRST; list <= THIRD && a[0] != PT_RULE; list++) {
         if (!(settings & (PT_PARENT << list)))
             continue;
+        spare_lists += (unsigned)has_spare(lent[list].at, lent[list].len);
         pt_read(lent[list].at, lent[list].len, any_row, 65536, read);
         if (read[0]) {
             check_list_refusal((uint32_t)list + 1, list);
@@ -236,23 +283,26 @@ static void check_present_lists(uint32_t settings)
         fault("refusal %u of list %u, but each list reads as done", a[0], a[1]);
 }
 
+/* Asked first with plenty of room and no spare bytes: neither may change what comes. */
 uint32_t case_compute(void)
 {
     uint32_t rule = chance(12) ? pick(4) : 1 + pick(2), settings = (uint32_t)next(), probed[8];
     size_t out_len;
 
     lend_compute();
-    compute(rule, settings, plenty, sizeof plenty, probed);
+    compute(rule, settings, without_spare, plenty, sizeof plenty, probed);
     out_len = choose_out(probed);
     lend_filled(OUT, out_len);
-    compute(rule, settings, lent[OUT].at, out_len, answer());
-    check_places(0x0400);
+    compute(rule, settings, lent_bytes, lent[OUT].at, out_len, answer());
+    check_places(0x0400, 0);
     check_present_lists(settings);
     check_probed(probed, out_len);
     if ((rule != 1 && rule != 2) != (answer()[0] == PT_RULE))
         fault("rule %u: number %u", rule, answer()[0]);
+    if (answer()[3] > 65532)
+        fault("a result of %u bytes", answer()[3]);
     if (answer()[0] == PT_DONE)
-        check_reads(lent[OUT].at, answer());
+        check_reads(lent[OUT].at, answer(), 0);
     return answer()[0];
 }
 
@@ -274,21 +324,26 @@ static void check_text(const char *text, const uint32_t *a, size_t script_len)
     }
 }
 
+/* A script that isn't bad is played first without the spare bytes of its lists: that may not change the text. */
 uint32_t case_play(void)
 {
-    size_t len = make_script(lent[FIRST].before), out_len;
+    static uint8_t cut[SCRIPT_MOST];
+    size_t len = make_script(lent[FIRST].before), cut_len = cut_script(lent[FIRST].before, len, cut), out_len;
     uint32_t probed[8];
     char text[256] = {0};
 
     lend(FIRST, len);
     lend_answer();
-    pt_play(lent[FIRST].at, len, plenty, sizeof plenty, probed);
+    pt_play(cut_len ? cut : lent[FIRST].at, cut_len ? cut_len : len, plenty, sizeof plenty, probed);
     out_len = choose_out(probed);
     lend_filled(OUT, out_len);
     pt_play(lent[FIRST].at, len, lent[OUT].at, out_len, answer());
-    check_places(0);
+    check_places(0, 0);
     check_probed(probed, out_len);
+    spare_lists = cut_len && cut_len < len;
     if (answer()[0] == PT_DONE) {
+        if (answer()[4] != (cut_len != 0))
+            fault("a listing or none, against the script's own lengths");
         if (answer()[3] >= sizeof text)
             fault("a text of %u bytes", answer()[3]);
         memcpy(text, lent[OUT].at, answer()[3]);

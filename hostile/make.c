@@ -221,7 +221,23 @@ static void spoil_an_entry(uint8_t *list, size_t len)
         list[at + place] = (uint8_t)(chance(2) ? list[at + place] + 1 + pick(4) : next() >> 56);
 }
 
-/* The list has at least 8 bytes. */
+/* Its last entry's size takes in bytes behind it. */
+static size_t stretch_an_entry(uint8_t *list, size_t len)
+{
+    size_t at = 8, more = 1 + pick(8);
+    unsigned left = get16(list + 4);
+
+    if (!left)
+        return len;
+    while (--left)
+        at += get16(list + at + 2);
+    make_bytes(list + len, 8);
+    put16(list + at + 2, get16(list + at + 2) + more);
+    put16(list + 2, len + more);
+    return len + more;
+}
+
+/* The list has at least 8 bytes, and good entries. */
 static size_t spoil_list(uint8_t *list, size_t len)
 {
     switch (pick(16)) {
@@ -244,10 +260,7 @@ static size_t spoil_list(uint8_t *list, size_t len)
         put16(list + 2, chance(2) ? next() & 0xFFFF : len + 2u * pick(2) - 1);
         return len;
     case 6:
-        make_bytes(list + len, 8);
-        len += 1 + pick(8);
-        put16(list + 2, len);
-        return len;
+        return stretch_an_entry(list, len);
     case 7:
         make_bytes(list + 8, len - 8);
         return len;
@@ -257,17 +270,64 @@ static size_t spoil_list(uint8_t *list, size_t len)
     }
 }
 
+size_t pad_list(uint8_t *list, size_t len, size_t padded)
+{
+    make_bytes(list + len, padded - len);
+    put16(list + 2, padded);
+    return padded;
+}
+
+/* Bytes to stand behind the last entry: an entry, good, spoilt or cut, zeros, or any. */
+static size_t make_spare(uint8_t *to)
+{
+    size_t len = make_entry(to, chance(2) ? 2 : 4);
+
+    switch (pick(6)) {
+    case 0: return len;
+    case 1: spoil_on_purpose(to); return len;
+    case 2: return 1 + pick((uint32_t)len);
+    case 3: memset(to, 0, 12); return 1 + pick(12);
+    default:
+        len = 1 + pick(chance(8) ? 400 : 24);
+        make_bytes(to, len);
+        return len;
+    }
+}
+
+/* The list has at least 8 bytes. A smaller count makes spare bytes of the entries behind it; a tree takes 1,024 bytes. */
+static size_t add_spare(uint8_t *list, size_t len)
+{
+    unsigned count = get16(list + 4);
+    int hides = count && chance(3);
+
+    if (hides)
+        put16(list + 4, pick(count));
+    if (hides && !chance(4))
+        return len;
+    if (len < 1016 && chance(24))
+        return pad_list(list, len, 1016 + pick(16));
+    len += make_spare(list + len);
+    put16(list + 2, len);
+    return len;
+}
+
 static size_t make_long_list(uint8_t *to)
 {
     size_t len;
 
-    switch (pick(4)) {
+    switch (pick(6)) {
     case 0:
         return make_good_list(to, 65535, 4000);
     case 1:
         return make_good_list(to, LIST_MOST, 4000);
     case 2:
         return spoil_list(to, make_good_list(to, 65500, pick(4000)));
+    case 3:
+        len = make_good_list(to, 4000, pick(41));
+        return pad_list(to, len, len + 1 + pick(60000));
+    case 4:
+        len = make_good_list(to, 65532, chance(2) ? 4000 : pick(41));
+        return pad_list(to, len, 65533 + pick(3));
     default:
         len = 1100 + pick(LIST_MOST - 1100);
         make_bytes(to, len);
@@ -293,6 +353,8 @@ size_t make_list(uint8_t *to, size_t most, uint32_t spoilt)
         return len;
     }
     len = make_good_list(to, most, chance(4) ? pick(41) : pick(6));
+    if (chance(4))
+        len = add_spare(to, len);
     return chance(spoilt) ? spoil_list(to, len) : len;
 }
 

@@ -23,7 +23,8 @@ size_t make_types(uint8_t *to);
 size_t make_sid(uint8_t *to);                                      /* exactly one, at times a placeholder */
 size_t make_identity(uint8_t *to, uint32_t spoilt);                /* once in `spoilt` anything but a good owner */
 size_t make_good_list(uint8_t *to, size_t most, unsigned entries);
-size_t make_list(uint8_t *to, size_t most, uint32_t spoilt);       /* once in `spoilt` a spoilt one; seldom a very long one */
+size_t pad_list(uint8_t *list, size_t len, size_t padded);         /* a list with spare bytes up to the length `padded` */
+size_t make_list(uint8_t *to, size_t most, uint32_t spoilt);       /* once in `spoilt` a spoilt one; often spare bytes; seldom a very long one */
 size_t make_script(uint8_t *to);
 
 #endif

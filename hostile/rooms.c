@@ -36,7 +36,7 @@ void rooms_prepare(void)
     }
 }
 
-static uint8_t *object_at(uint8_t *room, uint32_t object)
+uint8_t *object_at(uint8_t *room, uint32_t object)
 {
     return room + FIXED + OBJECT * object;
 }
@@ -50,6 +50,8 @@ static void plant_list(uint8_t *slot)
 {
     size_t len = make_good_list(slot + 3, LIST_LONGEST, chance(2) ? 60 : pick(8));
 
+    if (chance(4))
+        len = pad_list(slot + 3, len, len + pick((uint32_t)(LIST_LONGEST - len) + 1));
     slot[0] = 1;
     put16(slot + 1, len);
 }

@@ -16,6 +16,7 @@ enum { LIVE_ROOMS = 12 };
 extern int lent_live; /* which live room is lent as it is, or -1 */
 
 uint32_t formula(uint32_t objects, uint32_t steps);
+uint8_t *object_at(uint8_t *room, uint32_t object);
 uint8_t *step_data_at(uint8_t *room, uint32_t step);
 void rooms_prepare(void);
 void lend_room(void);      /* and the answer */

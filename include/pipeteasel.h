@@ -13,7 +13,7 @@
  *   4  done: 1 present, 0 absent
  *   5  done: the entry count
  *   6  done: the control bits
- *   7  0
+ *   7  done, of pt_read: where the entries end, 8 where there are none; else 0
  */
 #ifndef PIPETEASEL_H
 #define PIPETEASEL_H
@@ -28,7 +28,7 @@ extern "C" {
 enum {
     PT_DONE = 0,
     PT_HEADER = 1,   /* list under 8 bytes, revision not 2 or 4, zero bytes not zero, size not the length */
-    PT_SIZE = 2,     /* an entry doesn't fit or its size is wrong, or bytes remain after the last */
+    PT_SIZE = 2,     /* an entry doesn't fit or its size is wrong */
     PT_TYPE = 3,     /* entry type not 00, 01, 05, 06, or 05 and 06 under revision 2 */
     PT_BITS = 4,     /* an unknown bit in the flags or in the object word */
     PT_SID = 5,      /* SID first byte not 1, or n above 15, in an entry */
@@ -58,8 +58,14 @@ enum {
  * 2 creator group (S-1-3-1), 6 not exactly one SID. */
 uint32_t pt_identity(const uint8_t *bytes, size_t bytes_len);
 
-/* Reads an access list. Done: the row's elements up to the entry count hold the entries' offsets, and the
- * rest are as they were. Refused, by 1 to 5 and then 8: no element changes. */
+/* A list handed to any call may have spare bytes: any bytes between the last entry that its count says and its size, which must
+ * equal the length handed in, so up to 65,535 bytes in all. They are looked at by nothing. An own list is kept and given back with
+ * them, and they count for the 1,024 bytes of a list given to a tree; a computed list never has any. */
+
+/* Reads an access list. Done: the row's elements up to the entry count hold the entries' offsets, and the rest are as they were;
+ * place 7 is where the entries end and spare bytes begin. Refused, by 1 to 5 and then 8: no element changes.
+ * row_len counts elements, not bytes. 4,095 elements are enough for every list, with spare bytes or without: an entry has at least
+ * 16 bytes, and no more than 65,527 can follow a header. */
 void pt_read(const uint8_t *list, size_t list_len, uint16_t *row, size_t row_len, uint32_t answer[8]);
 
 /* Computes the list of a new object by MS-DTYP under rule 1 (the printed text) or 2 (what the library runs), onto the

@@ -11,7 +11,7 @@ pub const NO_PROPAGATE: u8 = 0x04;
 pub const INHERIT_ONLY: u8 = 0x08;
 pub const INHERITED: u8 = 0x10;
 
-/// No list of the computation is longer.
+/// No result of the computation is longer; a list given may have 65,535 bytes.
 pub const LONGEST_LIST: usize = 65_532;
 
 #[derive(Clone, Debug, PartialEq, Eq)]

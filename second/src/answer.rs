@@ -11,16 +11,27 @@ pub struct Answer {
     pub present: u32,
     pub count: u32,
     pub control: u32,
+    /// Where the entries end: a reader's done alone says it.
+    pub end: u32,
 }
 
 impl Answer {
-    /// A list that is there, outside the computation: control is 0.
+    /// A list that is there, outside the computation and the reader: control
+    /// and end are 0.
     pub fn done(length: usize, count: usize) -> Answer {
         Answer {
             length: narrow(length),
             present: 1,
             count: narrow(count),
             ..Answer::default()
+        }
+    }
+
+    /// A list that was read, with spare bytes or without.
+    pub fn read(length: usize, count: usize, end: usize) -> Answer {
+        Answer {
+            end: narrow(end),
+            ..Answer::done(length, count)
         }
     }
 
@@ -61,10 +72,11 @@ impl Answer {
         ]
     }
 
-    /// The same with the eighth number, which is 0.
+    /// The same and where the entries end.
     pub fn eight(&self) -> [u32; 8] {
         let mut numbers = [0; 8];
         numbers[..7].copy_from_slice(&self.seven());
+        numbers[7] = self.end;
         numbers
     }
 }

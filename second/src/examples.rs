@@ -1,5 +1,5 @@
 //! The examples written by hand, each with the answer expected.
-//! A line is `NAME ; ROW ; HEX ; NUMBER OFFSET LENGTH COUNT`.
+//! A line is `NAME ; ROW ; HEX ; NUMBER OFFSET LENGTH COUNT END`.
 
 use crate::answer::Answer;
 use crate::records::{Case, fresh_row};
@@ -23,7 +23,7 @@ impl Example {
     /// What differs from the answer written by hand, if anything does.
     pub fn difference(&self) -> Option<String> {
         let found = reading::read(&self.list, &mut fresh_row(self.row_length));
-        let (expected, found) = (self.expected.seven(), found.seven());
+        let (expected, found) = (self.expected.eight(), found.eight());
         let Example { name, .. } = self;
         (found != expected).then(|| format!("{name}: expected {expected:?}, found {found:?}"))
     }
@@ -60,8 +60,8 @@ fn parse_expected(text: &str) -> Result<Answer, String> {
         .split_whitespace()
         .map(number)
         .collect::<Result<Vec<u32>, String>>()?;
-    let [number, offset, length, count] = numbers[..] else {
-        return Err("the answer isn't four numbers".to_string());
+    let [number, offset, length, count, end] = numbers[..] else {
+        return Err("the answer isn't five numbers".to_string());
     };
     Ok(Answer {
         number,
@@ -69,6 +69,7 @@ fn parse_expected(text: &str) -> Result<Answer, String> {
         length,
         present: u32::from(number == 0),
         count,
+        end,
         ..Answer::default()
     })
 }
@@ -78,15 +79,15 @@ mod tests {
     use super::*;
 
     const TEXT: &str = "# a comment\n\n\
-        empty ; 0 ; 02 00 08 00 00 00 00 00 ; 0 0 8 0\n\
-        nothing ; 3 ; ; 1 0 0 0\n\
-        wrong ; 0 ; 0200 0900 0000 0000 00 ; 2 0 0 0\n";
+        empty ; 0 ; 02 00 08 00 00 00 00 00 ; 0 0 8 0 8\n\
+        nothing ; 3 ; ; 1 0 0 0 0\n\
+        wrong ; 0 ; 0200 0900 0000 0000 00 ; 0 0 9 0 9\n";
 
     #[test]
     fn lines_are_read_and_compared() {
         let examples = parse_all(TEXT).unwrap();
         let differences: Vec<bool> = examples.iter().map(|e| e.difference().is_some()).collect();
-        // Bytes remain at 8, not at 0: the third line is wrong on purpose.
+        // The entries end at 8, before a spare byte: the third line is wrong on purpose.
         assert_eq!(differences, [false, false, true]);
         assert_eq!(examples[1].row_length, 3);
     }
@@ -94,7 +95,7 @@ mod tests {
     #[test]
     fn bad_lines_are_told() {
         assert!(parse_all("a ; 0 ; 00").is_err());
-        assert!(parse_all("a ; 0 ; 0x ; 1 0 0 0").is_err());
-        assert!(parse_all("a ; 0 ; 00 ; 1 0 0").is_err());
+        assert!(parse_all("a ; 0 ; 0x ; 1 0 0 0 0").is_err());
+        assert!(parse_all("a ; 0 ; 00 ; 1 0 0 0").is_err());
     }
 }

@@ -40,6 +40,9 @@ pub struct Entry<'a> {
 pub struct List<'a> {
     pub revision: Revision,
     pub entries: Vec<Entry<'a>>,
+    /// Where the entries end; the bytes behind are spare and looked at by
+    /// nothing.
+    pub end: usize,
 }
 
 struct Header {
@@ -184,15 +187,17 @@ impl<'a> List<'a> {
             offset += entry.bytes.len();
             entries.push(entry);
         }
-        if offset != list.len() {
-            let fault = Fault::BytesRemain;
-            return Err(Refusal { fault, offset });
-        }
         Ok(List {
             revision: header.revision,
             entries,
+            end: offset,
         })
     }
+}
+
+/// How many spare bytes a good list has; 0 for one that is refused.
+pub fn spare_bytes(list: &[u8]) -> usize {
+    List::parse(list).map_or(0, |parsed| list.len() - parsed.end)
 }
 
 #[cfg(test)]

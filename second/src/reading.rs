@@ -22,7 +22,7 @@ pub fn try_read<'a>(list: &'a [u8], row: &mut [u16]) -> Result<List<'a>, Refusal
 /// The reader gives list 0.
 pub fn read(list: &[u8], row: &mut [u16]) -> Answer {
     match try_read(list, row) {
-        Ok(parsed) => Answer::done(list.len(), parsed.entries.len()),
+        Ok(parsed) => Answer::read(list.len(), parsed.entries.len(), parsed.end),
         Err(refusal) => Answer::refused(refusal, 0),
     }
 }
@@ -42,7 +42,7 @@ mod tests {
     #[test]
     fn the_index_and_the_rest_of_the_row() {
         let mut row = [7, 7, 7];
-        assert_eq!(run(PAIR, &mut row), [0, 0, 0, 40, 1, 2, 0, 0]);
+        assert_eq!(run(PAIR, &mut row), [0, 0, 0, 40, 1, 2, 0, 40]);
         assert_eq!(row, [8, 24, 7]);
     }
 
@@ -55,7 +55,30 @@ mod tests {
 
     #[test]
     fn an_empty_list_needs_no_row() {
-        assert_eq!(run("0200080000000000", &mut []), [0, 0, 0, 8, 1, 0, 0, 0]);
+        assert_eq!(run("0200080000000000", &mut []), [0, 0, 0, 8, 1, 0, 0, 8]);
+    }
+
+    /// The same two entries, with any bytes behind them or a smaller count.
+    #[test]
+    fn spare_bytes_are_counted_in_the_length_alone() {
+        let spare = PAIR.replace("2800", "2B00") + "FF FF FF";
+        let mut row = [7, 7, 7];
+        assert_eq!(run(&spare, &mut row), [0, 0, 0, 43, 1, 2, 0, 40]);
+        assert_eq!(row, [8, 24, 7]);
+        let hidden = PAIR.replace("2800 0200", "2800 0100");
+        let mut row = [7, 7, 7];
+        assert_eq!(run(&hidden, &mut row), [0, 0, 0, 40, 1, 1, 0, 24]);
+        assert_eq!(row, [8, 7, 7]);
+        let all_spare = PAIR.replace("2800 0200", "2800 0000");
+        assert_eq!(run(&all_spare, &mut []), [0, 0, 0, 40, 1, 0, 0, 8]);
+    }
+
+    #[test]
+    fn a_short_row_is_refused_with_spare_bytes_too() {
+        let spare = PAIR.replace("2800", "2900") + "00";
+        let mut row = [7];
+        assert_eq!(run(&spare, &mut row), [8, 0, 0, 0, 0, 0, 0, 0]);
+        assert_eq!(row, [7]);
     }
 
     #[test]

@@ -137,11 +137,12 @@ fn answer_line(case: &Case, player: &mut Player) -> String {
     }
 }
 
+/// All eight numbers, then the row; the end is the eighth.
 fn read_line(row_length: u16, list: &[u8]) -> String {
     let mut row = fresh_row(row_length);
     let answer = reading::read(list, &mut row);
     let offsets = row.iter().map(|&offset| offset.into());
-    spaced(answer.seven().into_iter().chain(offsets))
+    spaced(answer.eight().into_iter().chain(offsets))
 }
 
 fn spaced(numbers: impl IntoIterator<Item = u32>) -> String {
@@ -229,9 +230,11 @@ mod tests {
         let empty = vec![2, 0, 8, 0, 0, 0, 0, 0];
         assert_eq!(
             answer_lines(&[Case::read(2, empty)]),
-            "0 0 0 8 1 0 0 65535 65534\n"
+            "0 0 0 8 1 0 0 8 65535 65534\n"
         );
-        assert_eq!(answer_lines(&[Case::read(0, vec![])]), "1 0 0 0 0 0 0\n");
+        assert_eq!(answer_lines(&[Case::read(0, vec![])]), "1 0 0 0 0 0 0 0\n");
+        let spare = vec![2, 0, 9, 0, 0, 0, 0, 0, 0xFF];
+        assert_eq!(answer_lines(&[Case::read(0, spare)]), "0 0 0 9 1 0 0 8\n");
         let zeros = "0".repeat(136);
         assert_eq!(
             answer_lines(&[Case::Identity(vec![])]),

@@ -23,12 +23,11 @@ pub enum Fault {
     SidHead,
     /// (h)
     InexactSize,
-    BytesRemain,
     RowTooShort,
 }
 
 impl Fault {
-    pub const ALL: [Fault; 14] = [
+    pub const ALL: [Fault; 13] = [
         Fault::HeaderCut,
         Fault::Revision,
         Fault::HeaderNotZero,
@@ -41,7 +40,6 @@ impl Fault {
         Fault::NoGuidOrSidHead,
         Fault::SidHead,
         Fault::InexactSize,
-        Fault::BytesRemain,
         Fault::RowTooShort,
     ];
 
@@ -51,8 +49,7 @@ impl Fault {
             Fault::EntryOutside
             | Fault::NoMaskOrWord
             | Fault::NoGuidOrSidHead
-            | Fault::InexactSize
-            | Fault::BytesRemain => 2,
+            | Fault::InexactSize => 2,
             Fault::EntryType => 3,
             Fault::EntryFlags | Fault::ObjectWord => 4,
             Fault::SidHead => 5,
@@ -74,7 +71,6 @@ impl Fault {
             Fault::NoGuidOrSidHead => "(f) no GUIDs or SID head",
             Fault::SidHead => "(g) SID",
             Fault::InexactSize => "(h) inexact size",
-            Fault::BytesRemain => "bytes remain",
             Fault::RowTooShort => "row too short",
         }
     }

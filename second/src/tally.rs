@@ -2,12 +2,13 @@
 
 use std::collections::BTreeMap;
 
-use crate::computing::{self, Request};
+use crate::computing::{self, Request, WhichList};
 use crate::identity;
+use crate::list::spare_bytes;
 use crate::reading;
 use crate::records::{Case, fresh_room, fresh_row};
 use crate::script::{self, Ending};
-use crate::tree::{Call, Outcome, Player};
+use crate::tree::{Call, Outcome, Part, Player};
 
 #[derive(Default)]
 pub struct Tally {
@@ -23,6 +24,9 @@ impl Tally {
                 tally.add_script(script, *out_length);
             } else {
                 tally.add(label(case, &mut player));
+            }
+            if let Case::Compute { request, room } = case {
+                tally.add_spare_bytes(request, *room);
             }
         }
         tally
@@ -45,6 +49,19 @@ impl Tally {
         });
     }
 
+    /// Each list that has them, where the computation is done.
+    fn add_spare_bytes(&mut self, request: &Request, room: usize) {
+        if computing::try_compute(request, &mut fresh_room(room)).is_err() {
+            return;
+        }
+        for which in WhichList::ALL {
+            let list = request.list(which);
+            if list.is_some_and(|list| spare_bytes(list) > 0) {
+                self.add(format!("compute 0  spare bytes: {}", which.name()));
+            }
+        }
+    }
+
     pub fn count(&self, label: &str) -> usize {
         self.counts.get(label).copied().unwrap_or(0)
     }
@@ -62,6 +79,7 @@ fn label(case: &Case, player: &mut Player) -> String {
         Case::Identity(bytes) => format!("identity {}", identity::classify(bytes)),
         Case::Read { row_length, list } => {
             match reading::try_read(list, &mut fresh_row(*row_length)) {
+                Ok(parsed) if parsed.end < list.len() => "read 0  spare bytes".to_string(),
                 Ok(_) => "read 0".to_string(),
                 Err(refusal) => {
                     let fault = refusal.fault;
@@ -79,12 +97,32 @@ fn call_label(of: &str, call: &Call, outcome: &Outcome) -> String {
     let name = call.name();
     match outcome.result() {
         None => format!("{of} {name}"),
+        Some(Ok(_)) if meets_spare_bytes(call, outcome) => {
+            format!("{of} {name} 0  spare bytes")
+        }
         Some(Ok(_)) => format!("{of} {name} 0"),
         Some(Err(refused)) => {
             let number = refused.answer().number;
             format!("{of} {name} {number}  {}", refused.name())
         }
     }
+}
+
+/// Whether the call was given a list that has them, or gave one back.
+fn meets_spare_bytes(call: &Call, outcome: &Outcome) -> bool {
+    let list = match (call, outcome) {
+        (Call::Start { start, .. }, _) => start.default_list(),
+        (Call::Change(change), _) => change.given_list(),
+        (
+            Call::Read {
+                part: Part::List | Part::Own,
+                ..
+            },
+            Outcome::ReadBack(Ok(answer), out),
+        ) => out.get(..answer.length as usize),
+        _ => None,
+    };
+    list.is_some_and(|list| spare_bytes(list) > 0)
 }
 
 fn compute_label(request: &Request, room: usize) -> String {

@@ -12,9 +12,9 @@ use Rattle.inherit.specs.declared.Settings.{Settings}
 use Rattle.inherit.specs.declared.Mapping.{Mapping}
 use Rattle.tree.specs.Calls.{New}
 
--- the values of an answer in their places (RULES 8.1); the last place is 0
+-- the values of an answer in their places (RULES 8.1)
 abbrev pub placesOf : Values → List ℕ
-placesOf v = v .number ∷ v .list ∷ v .offset ∷ v .length ∷ v .present ∷ v .count ∷ v .control ∷ 0 ∷ []
+placesOf v = v .number ∷ v .list ∷ v .offset ∷ v .length ∷ v .present ∷ v .count ∷ v .control ∷ v .end ∷ []
 
 -- the settings of a computation: 1 parent present, 2 creator present, 4 default present, 8 container, 16 auto inherit, 32 default descriptor, 64 protected
 abbrev pub settingsOf : ℕ → Settings

@@ -29,10 +29,11 @@ fn put_values(
     present: u32,
     count: u32,
     control: u32,
+    end: u32,
 )
-    ensures { λ _. ⌜ now (answer .exit) ≡ placesOf (record { number = number; list = list; offset = offset; length = length; present = present; count = count; control = control }) ⌝ }
+    ensures { λ _. ⌜ now (answer .exit) ≡ placesOf (record { number = number; list = list; offset = offset; length = length; present = present; count = count; control = control; end = end }) ⌝ }
 {
-    *answer = [number, list, offset, length, present, count, control, 0];
+    *answer = [number, list, offset, length, present, count, control, end];
 }
 
 // A flag that is passed as a bit of a number.
@@ -85,12 +86,24 @@ pub extern "C" fn pt_read(list: &[u8], row: &mut [u16], answer: &mut [u32; 8])
         Reading::Done {
             length,
             count: entries,
-        } => put_values(answer, 0, 0, 0, length as u32, 1, entries as u32, 0),
+            end,
+        } => put_values(
+            answer,
+            0,
+            0,
+            0,
+            length as u32,
+            1,
+            entries as u32,
+            0,
+            end as u32,
+        ),
         Reading::Refused { number, at } => put_values(
             answer,
             number as u32,
             0,
             at as u32,
+            0,
             0,
             0,
             0,
@@ -143,8 +156,9 @@ pub extern "C" fn pt_compute<'a>(
             1,
             count as u32,
             control as u32,
+            0,
         ),
-        Computed::Absent => put_values(answer, 0, 0, 0, 0, 0, 0, 0),
+        Computed::Absent => put_values(answer, 0, 0, 0, 0, 0, 0, 0, 0),
         Computed::Refused {
             number,
             list,
@@ -154,6 +168,7 @@ pub extern "C" fn pt_compute<'a>(
             number as u32,
             list as u32,
             offset as u32,
+            0,
             0,
             0,
             0,
@@ -178,12 +193,32 @@ fn put_answer(answer: &mut [u32; 8], a: Answer)
             length: long,
             present,
             count: held,
-        } => put_values(answer, 0, 0, 0, long as u32, flag(present), held as u32, 0),
+        } => put_values(
+            answer,
+            0,
+            0,
+            0,
+            long as u32,
+            flag(present),
+            held as u32,
+            0,
+            0,
+        ),
         Answer::Refused {
             number: why,
             list: which,
             offset: place,
-        } => put_values(answer, why as u32, which as u32, place as u32, 0, 0, 0, 0),
+        } => put_values(
+            answer,
+            why as u32,
+            which as u32,
+            place as u32,
+            0,
+            0,
+            0,
+            0,
+            0,
+        ),
     }
 }
 

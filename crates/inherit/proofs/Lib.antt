@@ -14,4 +14,5 @@ pub mod Sources
 pub mod Refusals
 pub mod Runs
 pub mod Theorems
+pub mod Spare
 pub mod Determined

@@ -28,8 +28,8 @@ pub record Sourced (b : Bool) (s : List ℕ) (src : Source) : Type 0 where
 
 by-reading : (s : List ℕ) (r : Reading) → checkOf access s ≡ r → sourceBy r (revOf s) .number ≡ 0 → Sourced true s (sourceBy r (revOf s))
 unfolding sourceBy entriesIf
-by-reading s (Done l n) q h =
-    let t = told access s l n q .listed in
+by-reading s (Done l n x) q h =
+    let t = told access s l n x q .listed in
     record { passes = t .passes; entries = entries-are access s n t; wholes = laid access s n t .wholes }
 by-reading s (Unread k at) q h = let z = subst ListNumber q (list-number access s) in absurd (omega (arith, z .0))
 
@@ -61,7 +61,7 @@ sourced b s src f = subst (Sourced b s) (sym (f .is)) (sourced-of b s (still-goo
 on-reading : (r : Reading) (rev which : ℕ) (rest : Values) → ListNumber r → (sourceBy r rev .number ≡ 0 → onReading r which rest ≡ rest)
     × ((sourceBy r rev .number ≡ 0 → ⊥) → onReading r which rest ≡ refused (sourceBy r rev .number) which (sourceBy r rev .offset))
 unfolding sourceBy onReading
-on-reading (Done l n) rev which rest k = (λ h. refl, λ h. absurd (h refl))
+on-reading (Done l n x) rev which rest k = (λ h. refl, λ h. absurd (h refl))
 on-reading (Unread j at) rev which rest k = (λ h. absurd (omega (arith, k .0)), λ h. refl)
 
 pub readable-good : (o : MaybeList) (which : ℕ) (rest : Values) → sourceOf o .number ≡ 0 → readable o which rest ≡ rest

@@ -110,10 +110,10 @@ by-plan : (b : Bool) (xs es : List (List ℕ)) (j k : ℕ) → cond b absent (ho
 by-plan true xs es j k h = let z : _≡_ {A = ℕ} 0 1 = cc in absurd (omega arith)
 by-plan false xs es j k h = cc
 
--- a computed list: it reads as done, with the length and the count that the answer says, and none of its entries names a placeholder
+-- a computed list: it reads as done, with the length and the count that the answer says, its entries end at its length, and none of them names a placeholder
 pub record Computes (bytes : List ℕ) (l n : ℕ) : Type 0 where
   pub listed : Listed access bytes n
-  pub done : checkOf access bytes ≡ Done l n
+  pub done : checkOf access bytes ≡ Done l n l
   pub ordinary-sids : Every (λ e. placeholderOf (sidOf e) ≡ 0) (entriesOf bytes)
 
 pub computes : (a : Asked) (room : ℕ) → computeOf a room .present ≡ 1
@@ -144,7 +144,7 @@ computes a room h =
     subst (λ (x : Result). Computes (bytesFor x) (computeOf a room .length) (computeOf a room .count)) (sym (t .is))
     (record {
       listed = subst (Listed access (render (revFor es) es)) (sym count) (m .listed);
-      done = m .done ∙ ap₂ Done (sym size) (sym count);
+      done = m .done ∙ ap₂ (λ (x y : ℕ). Done x y x) (sym size) (sym count);
       ordinary-sids = subst (Every (λ x. placeholderOf (sidOf x) ≡ 0)) (sym (m .entries)) ps;
     })
 

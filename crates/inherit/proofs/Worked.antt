@@ -343,9 +343,9 @@ module _ (m : Mapping) (p c d t o g : List ℕ) where
 
 -- the numbers and values of each case of an answer (RULES 4.2)
 pub values-worked : (l n c k w x : ℕ)
-    → (computedValues (Present l n c) ≡ record { number = 0; list = 0; offset = 0; length = l; present = 1; count = n; control = c })
-    × ((computedValues Absent ≡ record { number = 0; list = 0; offset = 0; length = 0; present = 0; count = 0; control = 0 })
-    × ((computedValues (Refused k w x) ≡ record { number = k; list = w; offset = x; length = 0; present = 0; count = 0; control = 0 })
+    → (computedValues (Present l n c) ≡ record { number = 0; list = 0; offset = 0; length = l; present = 1; count = n; control = c; end = 0 })
+    × ((computedValues Absent ≡ record { number = 0; list = 0; offset = 0; length = 0; present = 0; count = 0; control = 0; end = 0 })
+    × ((computedValues (Refused k w x) ≡ record { number = k; list = w; offset = x; length = 0; present = 0; count = 0; control = 0; end = 0 })
     × ((isRefusal (Present l n c) ≡ false) × ((isRefusal Absent ≡ false) × (isRefusal (Refused k w x) ≡ true)))))
 values-worked l n c k w x = (refl, (refl, (refl, (refl, (refl, refl)))))
 

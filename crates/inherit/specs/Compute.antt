@@ -45,7 +45,7 @@ withRoom room (holds es control) = cond (fits room es) (done (sizeFor es) 1 (len
 
 -- a list that is present reads as done, or its refusal concerns list `which`
 unfoldable pub onReading : Reading → ℕ → Values → Values
-onReading (Read len n) which rest = rest
+onReading (Read len n end) which rest = rest
 onReading (Unread k at) which rest = refused k which at
 
 unfoldable pub readable : MaybeList → ℕ → Values → Values

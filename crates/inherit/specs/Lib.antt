@@ -4,3 +4,4 @@ pub mod Last
 pub mod Branch
 pub mod Compute
 pub mod Inner
+pub mod Spare

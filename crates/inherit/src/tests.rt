@@ -56,7 +56,11 @@ pub(crate) fn source_of(given: bool, list: &[u8]) -> Source
             rev: 0,
             count: 0,
         },
-        Reading::Done { length: _, count } => read_source(list, count),
+        Reading::Done {
+            length: _,
+            count,
+            end: _,
+        } => read_source(list, count),
     }
 }
 

@@ -6,7 +6,7 @@ use mathlib.Core.Logic.{_⊎_, inl, inr}
 use Prim.Native.Nat.{ℕ, zero, suc, _+_, _≤_}
 use native.Mathlib.Omega.{arith}
 use lib.ListN.{length, drop}
-use lib.Dec.{eqb, leb}
+use lib.Dec.{leb}
 use Rattle.list.specs.Order.{need}
 use Rattle.list.specs.Entry.{Family, access, entryOf, sizeOf}
 use Rattle.list.specs.List.{headerOk, onGood, walkOf, finish, checkOf, withRow, readOf, revOf, countOf}
@@ -21,12 +21,13 @@ use Rattle.list.proofs.Cases.{sound, is-good}
 
 -- the values determine the answer
 pub values-same : (x y : Reading) → readingValues x ≡ readingValues y → x ≡ y
-values-same (Done l n) (Done k m) e =
+values-same (Done l n x) (Done k m y) e =
     let a = ap (λ (v : Values). v .length) e in
     let b = ap (λ (v : Values). v .count) e in
+    let c = ap (λ (v : Values). v .end) e in
     cc
-values-same (Done l n) (Refused k at) e = let a = ap (λ (v : Values). v .present) e in absurd (omega arith)
-values-same (Refused k at) (Done l n) e = let a = ap (λ (v : Values). v .present) e in absurd (omega arith)
+values-same (Done l n x) (Refused k at) e = let a = ap (λ (v : Values). v .present) e in absurd (omega arith)
+values-same (Refused k at) (Done l n x) e = let a = ap (λ (v : Values). v .present) e in absurd (omega arith)
 values-same (Refused k at) (Refused j to) e =
     let a = ap (λ (v : Values). v .number) e in
     let b = ap (λ (v : Values). v .offset) e in
@@ -72,7 +73,7 @@ number-zero-good f rev t h = by (entryOf f rev t) refl (entry-number f rev t) h
 
 -- a list is refused by 1 to 5
 abbrev pub ListNumber : Reading → Type 0
-ListNumber (Done l n) = Unit
+ListNumber (Done l n x) = Unit
 ListNumber (Refused k at) = (1 ≤ k) × (k ≤ 5)
 
 cond-number : (b : Bool) (x y : Reading) → ListNumber x → ListNumber y → ListNumber (cond b x y)
@@ -94,20 +95,19 @@ pub list-number : (f : Family) (s : List ℕ) → ListNumber (checkOf f s)
 unfolding checkOf finish
 list-number f s =
     cond-number (headerOk s) _ _
-    (walk-number f (revOf s) (countOf s) 8 (drop 8 s) _
-    (λ end. cond-number (eqb end (length s)) (Done (length s) (countOf s)) (Refused 2 end) tt (omega arith, omega arith)))
+    (walk-number f (revOf s) (countOf s) 8 (drop 8 s) _ (λ end. tt))
     (omega arith, omega arith)
 
 -- with its row by 8 besides, with offset 0; so the number is 0 exactly where the list was read
 abbrev pub ReadNumber : Reading → Type 0
-ReadNumber (Done l n) = Unit
+ReadNumber (Done l n x) = Unit
 ReadNumber (Refused k at) = ((1 ≤ k) × (k ≤ 5)) ⊎ ((k ≡ 8) × (at ≡ 0))
 
 row-number : (m : ℕ) (r : Reading) → ListNumber r → ReadNumber (withRow m r)
 unfolding withRow
-row-number m (Done l n) h = by (leb n m)
+row-number m (Done l n x) h = by (leb n m)
   where
-    by : (b : Bool) → ReadNumber (cond b (Done l n) (Refused 8 0))
+    by : (b : Bool) → ReadNumber (cond b (Done l n x) (Refused 8 0))
     by true = tt
     by false = inr (refl, refl)
 row-number m (Refused k at) h = inl h

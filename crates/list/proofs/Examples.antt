@@ -8,8 +8,13 @@ use Rattle.list.specs.Bytes.{le, spell, sameBytes, part, putOn, putAt, g
 use Rattle.list.specs.Identity.{sidLen, isSid, placeholderOf, identityOf, bytesOf, placeholderSid, madeOf}
 use Rattle.list.specs.Order.{need}
 use Rattle.list.specs.Entry.{access, plainOf, objectOf, objectKind, kindOk, flagsOk, headOf, wordAfter, tailOk, entryOf}
-use Rattle.list.specs.List.{revOk, headerOk, onGood, walkOf, finish, checkOf, withRow, readOf, offsets, rowBy}
-use Rattle.list.specs.Answer.{Values, done, refused, readValues}
+use Rattle.list.specs.List.{revOk, headerOk, onGood, walkOf, finish, checkOf, withRow, readOf, offsets, rowBy, cut, entriesOf}
+use Rattle.list.specs.Spare.{withSpare, bareBy, bare, sizeSum}
+use Rattle.list.specs.Answer.{Values, readDone, refused, readValues}
+
+-- allow, flags 0, mask 0, a SID of no number
+abbrev small : List ℕ
+small = 0x00 ∷ 0x00 ∷ 0x10 ∷ 0 ∷ 0 ∷ 0 ∷ 0 ∷ 0 ∷ 0x01 ∷ 0x00 ∷ 0 ∷ 0 ∷ 0 ∷ 0 ∷ 0 ∷ 0 ∷ []
 
 -- a list, the row's length, and the answer
 pub record Example : Type 0 where
@@ -24,13 +29,18 @@ pub table : List Example
 table =
     -- the parent's list of RULES 5.1
     eg (0x02 ∷ 0 ∷ 0x1C ∷ 0 ∷ 0x01 ∷ 0 ∷ 0 ∷ 0
-    ∷ 0x00 ∷ 0x03 ∷ 0x14 ∷ 0 ∷ 0 ∷ 0 ∷ 0 ∷ 0x80 ∷ 0x01 ∷ 0x01 ∷ 0 ∷ 0 ∷ 0 ∷ 0 ∷ 0 ∷ 0x03 ∷ 0 ∷ 0 ∷ 0 ∷ 0 ∷ []) 2 (done 28 1 1 0)
+    ∷ 0x00 ∷ 0x03 ∷ 0x14 ∷ 0 ∷ 0 ∷ 0 ∷ 0 ∷ 0x80 ∷ 0x01 ∷ 0x01 ∷ 0 ∷ 0 ∷ 0 ∷ 0 ∷ 0 ∷ 0x03 ∷ 0 ∷ 0 ∷ 0 ∷ 0 ∷ []) 2 (readDone 28 1 28)
     -- no entries, in either revision; types 05 and 06 under revision 4, the first with both GUIDs and flags 1F, the second with none
-    ∷ eg (0x02 ∷ 0 ∷ 0x08 ∷ 0 ∷ 0 ∷ 0 ∷ 0 ∷ 0 ∷ []) 0 (done 8 1 0 0)
-    ∷ eg (0x04 ∷ 0 ∷ 0x08 ∷ 0 ∷ 0 ∷ 0 ∷ 0 ∷ 0 ∷ []) 0 (done 8 1 0 0)
+    ∷ eg (0x02 ∷ 0 ∷ 0x08 ∷ 0 ∷ 0 ∷ 0 ∷ 0 ∷ 0 ∷ []) 0 (readDone 8 0 8)
+    ∷ eg (0x04 ∷ 0 ∷ 0x08 ∷ 0 ∷ 0 ∷ 0 ∷ 0 ∷ 0 ∷ []) 0 (readDone 8 0 8)
     ∷ eg (0x04 ∷ 0 ∷ 0x50 ∷ 0 ∷ 0x02 ∷ 0 ∷ 0 ∷ 0
     ∷ 0x05 ∷ 0x1F ∷ 0x34 ∷ 0 ∷ 0 ∷ 0 ∷ 0 ∷ 0 ∷ 0x03 ∷ 0 ∷ 0 ∷ 0 ∷ (replicate 32 9 ++ (0x01 ∷ 0 ∷ 0 ∷ 0 ∷ 0 ∷ 0 ∷ 0 ∷ 0
-    ∷ 0x06 ∷ 0x00 ∷ 0x14 ∷ 0 ∷ 0 ∷ 0 ∷ 0 ∷ 0 ∷ 0 ∷ 0 ∷ 0 ∷ 0 ∷ 0x01 ∷ 0 ∷ 0 ∷ 0 ∷ 0 ∷ 0 ∷ 0 ∷ 0 ∷ []))) 2 (done 80 1 2 0)
+    ∷ 0x06 ∷ 0x00 ∷ 0x14 ∷ 0 ∷ 0 ∷ 0 ∷ 0 ∷ 0 ∷ 0 ∷ 0 ∷ 0 ∷ 0 ∷ 0x01 ∷ 0 ∷ 0 ∷ 0 ∷ 0 ∷ 0 ∷ 0 ∷ 0 ∷ []))) 2 (readDone 80 2 80)
+    -- spare bytes: one behind no entry; three behind one; a bad entry behind the count of 0, and one behind the count of 1
+    ∷ eg (0x02 ∷ 0 ∷ 0x09 ∷ 0 ∷ 0 ∷ 0 ∷ 0 ∷ 0 ∷ 0 ∷ []) 0 (readDone 9 0 8)
+    ∷ eg (0x02 ∷ 0 ∷ 0x1B ∷ 0 ∷ 0x01 ∷ 0 ∷ 0 ∷ 0 ∷ (small ++ (9 ∷ 9 ∷ 9 ∷ []))) 1 (readDone 27 1 24)
+    ∷ eg (0x02 ∷ 0 ∷ 0x0C ∷ 0 ∷ 0 ∷ 0 ∷ 0 ∷ 0 ∷ 0x07 ∷ 0x20 ∷ 0x04 ∷ 0 ∷ []) 0 (readDone 12 0 8)
+    ∷ eg (0x02 ∷ 0 ∷ 0x28 ∷ 0 ∷ 0x01 ∷ 0 ∷ 0 ∷ 0 ∷ (small ++ (0x00 ∷ 0x00 ∷ 0x10 ∷ 0 ∷ 0 ∷ 0 ∷ 0 ∷ 0 ∷ 0x02 ∷ 0x00 ∷ 0 ∷ 0 ∷ 0 ∷ 0 ∷ 0 ∷ 0 ∷ []))) 1 (readDone 40 1 24)
     -- 1: no eight bytes are there; revisions 1, 3 and 5; each byte that must be zero
     ∷ eg (0x02 ∷ 0 ∷ 0x07 ∷ 0 ∷ 0 ∷ 0 ∷ 0 ∷ []) 0 (refused 1 0 0)
     ∷ eg (0x01 ∷ 0 ∷ 0x08 ∷ 0 ∷ 0 ∷ 0 ∷ 0 ∷ 0 ∷ []) 0 (refused 1 0 0)
@@ -41,14 +51,13 @@ table =
     ∷ eg (0x02 ∷ 0 ∷ 0x08 ∷ 0 ∷ 0 ∷ 0 ∷ 0 ∷ 1 ∷ []) 0 (refused 1 0 0)
     -- and the size isn't the length
     ∷ eg (0x02 ∷ 0 ∷ 0x09 ∷ 0 ∷ 0 ∷ 0 ∷ 0 ∷ 0 ∷ []) 0 (refused 1 0 0)
-    -- 2: no four bytes are there; the size is past the end, by its low byte and by its high one; (d); (f); (h); bytes remain
+    -- 2: no four bytes are there; the size is past the end, by its low byte and by its high one; (d); (f); (h)
     ∷ eg (0x02 ∷ 0 ∷ 0x08 ∷ 0 ∷ 0x01 ∷ 0 ∷ 0 ∷ 0 ∷ []) 1 (refused 2 0 8)
     ∷ eg (0x02 ∷ 0 ∷ 0x0C ∷ 0 ∷ 0x01 ∷ 0 ∷ 0 ∷ 0 ∷ 0x00 ∷ 0x00 ∷ 0x05 ∷ 0 ∷ []) 1 (refused 2 0 8)
     ∷ eg (0x02 ∷ 0 ∷ 0x18 ∷ 0 ∷ 0x01 ∷ 0 ∷ 0 ∷ 0 ∷ 0x00 ∷ 0x00 ∷ 0x10 ∷ 0x01 ∷ 0 ∷ 0 ∷ 0 ∷ 0 ∷ 0x01 ∷ 0x00 ∷ 0 ∷ 0 ∷ 0 ∷ 0 ∷ 0 ∷ 0 ∷ []) 1 (refused 2 0 8)
     ∷ eg (0x02 ∷ 0 ∷ 0x0C ∷ 0 ∷ 0x01 ∷ 0 ∷ 0 ∷ 0 ∷ 0x00 ∷ 0x00 ∷ 0x04 ∷ 0 ∷ []) 1 (refused 2 0 8)
     ∷ eg (0x02 ∷ 0 ∷ 0x10 ∷ 0 ∷ 0x01 ∷ 0 ∷ 0 ∷ 0 ∷ 0x00 ∷ 0x00 ∷ 0x08 ∷ 0 ∷ 0 ∷ 0 ∷ 0 ∷ 0 ∷ []) 1 (refused 2 0 8)
     ∷ eg (0x02 ∷ 0 ∷ 0x18 ∷ 0 ∷ 0x01 ∷ 0 ∷ 0 ∷ 0 ∷ 0x00 ∷ 0x00 ∷ 0x10 ∷ 0 ∷ 0 ∷ 0 ∷ 0 ∷ 0 ∷ 0x01 ∷ 0x01 ∷ 0 ∷ 0 ∷ 0 ∷ 0 ∷ 0 ∷ 0 ∷ []) 1 (refused 2 0 8)
-    ∷ eg (0x02 ∷ 0 ∷ 0x09 ∷ 0 ∷ 0 ∷ 0 ∷ 0 ∷ 0 ∷ 0 ∷ []) 0 (refused 2 0 8)
     -- 3: type 05 under revision 2, though the flags are unknown too
     ∷ eg (0x02 ∷ 0 ∷ 0x0C ∷ 0 ∷ 0x01 ∷ 0 ∷ 0 ∷ 0 ∷ 0x05 ∷ 0x20 ∷ 0x04 ∷ 0 ∷ []) 1 (refused 3 0 8)
     -- types 02, 04 and 07 under revision 4
@@ -138,3 +147,16 @@ pub rows-worked :
     × ((rowBy (readOf access two 1) two (9 ∷ []) ≡ 9 ∷ []) × (rowBy (readOf access [] 3) [] (9 ∷ 9 ∷ 9 ∷ []) ≡ 9 ∷ 9 ∷ 9 ∷ []))
 unfolding rowBy offsets readOf withRow checkOf headerOk revOk walkOf onGood finish entry-open
 rows-worked = (refl, (refl, refl))
+
+-- ---- spare bytes (RULES 1.4): such a list of one entry with three, without them, and with another; one that is refused has none; the sizes of two entries
+
+abbrev with-three : List ℕ
+with-three = 0x02 ∷ 0 ∷ 0x1B ∷ 0 ∷ 0x01 ∷ 0 ∷ 0 ∷ 0 ∷ (small ++ (9 ∷ 9 ∷ 9 ∷ []))
+
+pub spare-worked :
+    (bare access with-three ≡ 0x02 ∷ 0 ∷ 0x18 ∷ 0 ∷ 0x01 ∷ 0 ∷ 0 ∷ 0 ∷ small)
+    × ((withSpare 24 (7 ∷ []) with-three ≡ 0x02 ∷ 0 ∷ 0x19 ∷ 0 ∷ 0x01 ∷ 0 ∷ 0 ∷ 0 ∷ (small ++ (7 ∷ [])))
+    × ((bare access (0x05 ∷ 0 ∷ 0x09 ∷ 0 ∷ 0 ∷ 0 ∷ 0 ∷ 0 ∷ 9 ∷ []) ≡ 0x05 ∷ 0 ∷ 0x09 ∷ 0 ∷ 0 ∷ 0 ∷ 0 ∷ 0 ∷ 9 ∷ [])
+    × (sizeSum (entriesOf two) ≡ 36)))
+unfolding bareBy withSpare sizeSum spell entriesOf cut checkOf headerOk revOk walkOf onGood finish entry-open
+spare-worked = (refl, (refl, (refl, refl)))

@@ -8,6 +8,7 @@ pub mod Walks
 pub mod Told
 pub mod Pieces
 pub mod Parts
+pub mod Spare
 pub mod Remade
 pub mod Revisions
 pub mod Rows

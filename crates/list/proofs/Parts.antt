@@ -6,7 +6,7 @@ use Prim.Native.Nat.{ℕ, zero, suc, _+_, _*_, _/_, _%_, _≤_, _<_}
 use native.Mathlib.Nat.{le-of-suc-le-suc, not-suc-le-zero}
 use native.Mathlib.Omega.{arith}
 use lib.ListN.{length, take, drop, getD, length-append, length-drop, take-append-drop}
-use lib.Seq.{drop-cons, drop-drop, drop-at, take-at, drop-length}
+use lib.Seq.{drop-cons, drop-drop, drop-at, take-at, length-take-le}
 use Rattle.list.specs.Bytes.{le, spell}
 use Rattle.list.specs.Entry.{Family, entryOf, sizeOf, kindOf, fieldsOf}
 use Rattle.list.specs.List.{cut, entriesEnd, entriesOf, offsets, headBytes, render, revOk, revOf, countOf, checkOf}
@@ -18,7 +18,7 @@ use Rattle.list.proofs.Cases.{is-good}
 use Rattle.list.proofs.Told.{reads}
 use Rattle.list.proofs.Pieces.{joined, join, split, fields-same, head-ge}
 
-size-joined : (f : Family) (rev : ℕ) (e u : List ℕ) → Whole f rev e → sizeOf (e ++ u) ≡ length e
+pub size-joined : (f : Family) (rev : ℕ) (e u : List ℕ) → Whole f rev e → sizeOf (e ++ u) ≡ length e
 size-joined f rev e u w = joined f rev e u w .size ∙ w .whole
 
 -- whole entries in front of anything are passed, cut out again, and end where their bytes do
@@ -85,22 +85,31 @@ every-at P [] k a p = absurd (not-suc-le-zero p)
 every-at P (e ∷ es) zero a p = a .0
 every-at P (e ∷ es) (suc k) a p = every-at P es k (a .1) (le-of-suc-le-suc p)
 
--- a list is its header, its entries and what follows them: nothing
+-- passed entries end where their bytes do
+pub end-cut : (f : Family) (rev n at : ℕ) (t : List ℕ) → Passes f rev n t → entriesEnd n at t ≡ at + length (flatten (cut n t))
+unfolding flatten cut entriesEnd
+end-cut f rev zero at t h = omega arith
+end-cut f rev (suc n) at t h =
+    let z = sizeOf t in
+    let r = end-cut f rev n (at + z) (drop z t) (h .1) in
+    let l = length-take-le z t (h .0 .within) in
+    omega (arith, length-append (take z t) (flatten (cut n (drop z t))))
+
+-- a list is its header, its entries and the spare bytes that follow them
 pub record Laid (f : Family) (s : List ℕ) (n : ℕ) : Type 0 where
   pub count : length (entriesOf s) ≡ n
   pub bytes : s ≡ take 8 s ++ (flatten (entriesOf s) ++ drop (entriesEnd n 8 (drop 8 s)) s)
   pub wholes : Every (Whole f (revOf s)) (entriesOf s)
-  pub fills : s ≡ take 8 s ++ flatten (entriesOf s)
+  pub ends : entriesEnd n 8 (drop 8 s) ≡ 8 + length (flatten (entriesOf s))
 
 pub laid : (f : Family) (s : List ℕ) (n : ℕ) → Listed f s n → Laid f s n
 unfolding entriesOf
 laid f s n r =
-    let b : s ≡ take 8 s ++ (flatten (entriesOf s) ++ drop (entriesEnd n 8 (drop 8 s)) s) = rw (← r .count, tiled n 8 s) (sym (take-append-drop 8 s)) in
     record {
       count = rw (r .count) (length-cut (countOf s) (drop 8 s));
-      bytes = b;
+      bytes = rw (← r .count, tiled n 8 s) (sym (take-append-drop 8 s));
       wholes = rw (← r .count) (wholes-cut f (revOf s) n (drop 8 s) (r .passes));
-      fills = b ∙ rw (r .ends, drop-length, append-nil);
+      ends = rw (← r .count) (end-cut f (revOf s) n 8 (drop 8 s) (r .passes));
     }
 
 -- the entries are those that are cut off, and none of none
@@ -138,17 +147,17 @@ kth f s n k r p =
       found = rw q (sym (is-good f (revOf s) _ (join f (revOf s) _ u w)) ∙ ap Good (fields-same (joined f (revOf s) _ u w)));
     }
 
--- entries are 8 bytes long at the least, so their number fits where their bytes do
-pub fewer : (f : Family) (rev : ℕ) (es : List (List ℕ)) → Every (Whole f rev) es → 8 * length es ≤ length (flatten es)
+-- entries are 16 bytes long at the least, so their number fits where their bytes do
+pub fewer : (f : Family) (rev : ℕ) (es : List (List ℕ)) → Every (Whole f rev) es → 16 * length es ≤ length (flatten es)
 unfolding flatten
 fewer f rev [] ws = omega arith
 fewer f rev (e ∷ es) ws =
-    omega (arith, fewer f rev es (ws .1), length-append e (flatten es), head-ge (kindOf e), ws .0 .sound .head, ws .0 .whole)
+    omega (arith, fewer f rev es (ws .1), length-append e (flatten es), head-ge (kindOf e), ws .0 .sound .eight, ws .0 .whole)
 
--- a header with whole entries behind it is a list of them, reads as done, and has them for its entries
+-- a header with whole entries behind it is a list of them, reads as done, ends with them, and has them for its entries
 pub record Rendered (f : Family) (rev : ℕ) (es : List (List ℕ)) : Type 0 where
   pub listed : Listed f (render rev es) (length es)
-  pub done : checkOf f (render rev es) ≡ Done (8 + length (flatten es)) (length es)
+  pub done : checkOf f (render rev es) ≡ Done (8 + length (flatten es)) (length es) (8 + length (flatten es))
   pub entries : entriesOf (render rev es) ≡ es
 
 pub length-head : (rev size count : ℕ) → length (headBytes rev size count) ≡ 8
@@ -169,7 +178,7 @@ unfolding render headBytes spell
 length-render rev es = omega arith
 
 -- a 16-bit field in front of anything
-field : (n : ℕ) (v : List ℕ) → n < 65536 → le 2 (spell 2 n ++ v) ≡ n
+pub field : (n : ℕ) (v : List ℕ) → n < 65536 → le 2 (spell 2 n ++ v) ≡ n
 field n v h = le-append 2 (spell 2 n) v (omega (arith, length-spell 2 n)) ∙ le-spell 2 n h
 
 pub count-render : (rev : ℕ) (es : List (List ℕ)) → length es < 65536 → countOf (render rev es) ≡ length es
@@ -201,14 +210,17 @@ module _ (f : Family) (rev : ℕ) (es : List (List ℕ)) (known : revOk rev ≡ 
         head = header-render;
         count = sym (count-render rev es count-fits);
         passes = rw bare at (passes-built f rev es [] ws);
-        ends = (rw bare at (end-built f rev es 8 [] ws)) ∙ sym (length-render rev es);
       }
+
+  end-render : entriesEnd (length es) 8 (drop 8 (render rev es)) ≡ 8 + length (flatten es)
+  unfolding render headBytes spell
+  end-render = rw bare at (end-built f rev es 8 [] ws)
 
   pub rendered : Rendered f rev es
   unfolding render headBytes spell entriesOf
   rendered =
       record {
         listed = listed-render;
-        done = reads f (render rev es) (length es) listed-render ∙ rw (length-render rev es);
+        done = reads f (render rev es) (length es) listed-render ∙ rw (end-render, length-render rev es);
         entries = rw (count-render rev es count-fits) (rw bare at (cut-built f rev es [] ws));
       }

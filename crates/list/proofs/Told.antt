@@ -1,17 +1,15 @@
--- A list reads as done exactly where it is a list of good entries that fill it; and what a refusal's number can be.
+-- A list reads as done exactly where it is a list of good entries, and then its end is where they end.
 use mathlib.Core.Path.{_≡_, refl}
 use mathlib.Core.Bool.{Bool, true, false, cond}
 use mathlib.Core.List.{List, _++_}
 use Prim.Native.Nat.{ℕ, _≤_, _<_}
 use lib.ListN.{length, drop}
-use lib.Dec.{eqb}
-use borrow.Author.Tests.{eqb-true, le-leb, lt-leb}
+use borrow.Author.Tests.{le-leb, lt-leb}
 use Rattle.list.specs.Entry.{Family}
 use Rattle.list.specs.List.{headerOk, walkOf, finish, checkOf, withRow, readOf, rowBy, offsets, entriesEnd, revOf, countOf}
 use Rattle.list.specs.Good.{Listed}
 use Rattle.list.specs.declared.lists.Reading.{Reading}
 use Rattle.list.specs.declared.lists.Reading.the-variants.{Done, Refused}
-use Rattle.list.proofs.Tests.{tests}
 use Rattle.list.proofs.Walks.{header, is-header, walked, walks}
 
 -- the reader's answer, and the row afterwards
@@ -19,9 +17,9 @@ pub record Reads (f : Family) (s row : List ℕ) (r : Reading) (row′ : List �
   pub answer : r ≡ readOf f s (length row)
   pub index : row′ ≡ rowBy (readOf f s (length row)) s row
 
-done-cond : (b : Bool) (r : Reading) (l k m at : ℕ) → cond b r (Refused m at) ≡ Done l k → (b ≡ true) × (r ≡ Done l k)
-done-cond true r l k m at h = (refl, h)
-done-cond false r l k m at h = (cc, cc)
+done-cond : (b : Bool) (r : Reading) (l k x m at : ℕ) → cond b r (Refused m at) ≡ Done l k x → (b ≡ true) × (r ≡ Done l k x)
+done-cond true r l k x m at h = (refl, h)
+done-cond false r l k x m at h = (cc, cc)
 
 -- the check by cases
 module _ (f : Family) (s : List ℕ) where
@@ -39,34 +37,34 @@ module _ (f : Family) (s : List ℕ) where
     unfolding readOf withRow rowBy
     read-refused k at e = record { answer = rw e; index = rw e }
 
-    module _ (l n : ℕ) (e : checkOf f s ≡ Done l n) where
+    module _ (l n x : ℕ) (e : checkOf f s ≡ Done l n x) where
       pub read-short : length row < n → Reads f s row (Refused 8 0) row
       unfolding readOf withRow rowBy
       read-short p = record { answer = rw (e, lt-leb n (length row)); index = rw (e, lt-leb n (length row)) }
 
-      pub read-done : n ≤ length row → Reads f s row (Done l n) (offsets n 8 (drop 8 s) ++ drop n row)
+      pub read-done : n ≤ length row → Reads f s row (Done l n x) (offsets n 8 (drop 8 s) ++ drop n row)
       unfolding readOf withRow rowBy
       read-done p = record { answer = rw (e, le-leb n (length row)); index = rw (e, le-leb n (length row)) }
 
 -- what a good answer says of the bytes
-pub record Told (f : Family) (s : List ℕ) (l n : ℕ) : Type 0 where
+pub record Told (f : Family) (s : List ℕ) (l n x : ℕ) : Type 0 where
   pub listed : Listed f s n
   pub whole : l ≡ length s
+  pub end : x ≡ entriesEnd n 8 (drop 8 s)
 
-pub told : (f : Family) (s : List ℕ) (l n : ℕ) → checkOf f s ≡ Done l n → Told f s l n
+pub told : (f : Family) (s : List ℕ) (l n x : ℕ) → checkOf f s ≡ Done l n x → Told f s l n x
 unfolding checkOf finish
-told f s l n h =
-    let p = done-cond (headerOk s) _ l n 1 0 h in
-    let w = walked f (revOf s) (countOf s) 8 (drop 8 s) _ l n (p .1) in
-    let e = done-cond (eqb (entriesEnd (countOf s) 8 (drop 8 s)) (length s)) _ l n 2 _ (w .1) in
-    let d = e .1 in
+told f s l n x h =
+    let p = done-cond (headerOk s) _ l n x 1 0 h in
+    let w = walked f (revOf s) (countOf s) 8 (drop 8 s) _ l n x (p .1) in
+    let d = w .1 in
     let c : n ≡ countOf s = cc in
-    record { listed = record { head = header s (p .0); count = c; passes = rw c (w .0); ends = rw c (eqb-true _ _ (e .0)) }; whole = cc }
+    let e : x ≡ entriesEnd (countOf s) 8 (drop 8 s) = cc in
+    record { listed = record { head = header s (p .0); count = c; passes = rw c (w .0) }; whole = cc; end = rw c e }
 
 -- and the bytes of the answer
-pub reads : (f : Family) (s : List ℕ) (n : ℕ) → Listed f s n → checkOf f s ≡ Done (length s) n
+pub reads : (f : Family) (s : List ℕ) (n : ℕ) → Listed f s n → checkOf f s ≡ Done (length s) n (entriesEnd n 8 (drop 8 s))
 unfolding checkOf finish
 reads f s n r =
     let c = r .count in
-    let e = r .ends in
-    rw (is-header s (r .head), ← c, walks f (revOf s) n 8 (drop 8 s) (finish (length s) n) (r .passes)) (simp (tests, e))
+    rw (is-header s (r .head), ← c, walks f (revOf s) n 8 (drop 8 s) (finish (length s) n) (r .passes))

@@ -79,22 +79,22 @@ module _ (f : Family) (rev n at : ℕ) (t : List ℕ) (done : ℕ → Reading) (
   walk-good e h = walk-turn f rev n at t done some ∙ rw h
 
 -- in a walk that ends well an entry is there, it is good, and the rest of the walk ends so too
-turn : (f : Family) (rev n at : ℕ) (t : List ℕ) (done : ℕ → Reading) (l k : ℕ) → walkOf f rev (suc n) at t done ≡ Done l k
-    → Sound f rev t × (walkOf f rev n (at + sizeOf t) (drop (sizeOf t) t) done ≡ Done l k)
-turn f rev n at t done l k h = by (entryOf f rev t) refl
+turn : (f : Family) (rev n at : ℕ) (t : List ℕ) (done : ℕ → Reading) (l k x : ℕ) → walkOf f rev (suc n) at t done ≡ Done l k x
+    → Sound f rev t × (walkOf f rev n (at + sizeOf t) (drop (sizeOf t) t) done ≡ Done l k x)
+turn f rev n at t done l k x h = by (entryOf f rev t) refl
   where
-    by : (o : Checked) → entryOf f rev t ≡ o → Sound f rev t × (walkOf f rev n (at + sizeOf t) (drop (sizeOf t) t) done ≡ Done l k)
+    by : (o : Checked) → entryOf f rev t ≡ o → Sound f rev t × (walkOf f rev n (at + sizeOf t) (drop (sizeOf t) t) done ≡ Done l k x)
     by (Good e) q = (sound f rev t e q, (rw sub-one at (sym (walk-good f rev (suc n) at t done (omega arith) e q))) ∙ h)
     by (Bad j) q = let w = walk-bad f rev (suc n) at t done (omega arith) j q in let z : _≡_ {A = ℕ} 0 1 = cc in absurd (omega arith)
 
 -- so it has passed n good entries, and what it says, it says of their end
-pub walked : (f : Family) (rev n at : ℕ) (t : List ℕ) (done : ℕ → Reading) (l k : ℕ) → walkOf f rev n at t done ≡ Done l k
-    → Passes f rev n t × (done (entriesEnd n at t) ≡ Done l k)
+pub walked : (f : Family) (rev n at : ℕ) (t : List ℕ) (done : ℕ → Reading) (l k x : ℕ) → walkOf f rev n at t done ≡ Done l k x
+    → Passes f rev n t × (done (entriesEnd n at t) ≡ Done l k x)
 unfolding walkOf entriesEnd
-walked f rev zero at t done l k h = (tt, h)
-walked f rev (suc n) at t done l k h =
-    let p = turn f rev n at t done l k h in
-    let r = walked f rev n (at + sizeOf t) (drop (sizeOf t) t) done l k (p .1) in
+walked f rev zero at t done l k x h = (tt, h)
+walked f rev (suc n) at t done l k x h =
+    let p = turn f rev n at t done l k x h in
+    let r = walked f rev n (at + sizeOf t) (drop (sizeOf t) t) done l k x (p .1) in
     ((p .0, r .0), r .1)
 
 -- and the other way

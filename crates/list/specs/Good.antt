@@ -6,7 +6,7 @@ use Prim.Native.Nat.{ℕ, zero, suc, _+_, _-_, _≤_, _<_}
 use lib.ListN.{length, drop, getD}
 use Rattle.list.specs.Bytes.{le}
 use Rattle.list.specs.Entry.{Family, kindOk, flagsOk, tailOk, kindOf, sizeOf, flagsOf, headOf, wordOf, sidAt, sidLenOf, sidEnd, middleOf, sidOf, tailOf}
-use Rattle.list.specs.List.{revOk, revOf, countOf, entriesEnd}
+use Rattle.list.specs.List.{revOk, revOf, countOf}
 
 -- t begins with a good entry
 pub record Sound (f : Family) (rev : ℕ) (t : List ℕ) : Type 0 where
@@ -48,12 +48,11 @@ pub record Header (s : List ℕ) : Type 0 where
   pub size : le 2 (drop 2 s) ≡ length s
   pub zeros : le 2 (drop 6 s) ≡ 0
 
--- s is a list of n good entries, which fill it
+-- s is a list of n good entries; spare bytes may follow them
 pub record Listed (f : Family) (s : List ℕ) (n : ℕ) : Type 0 where
   pub head : Header s
   pub count : n ≡ countOf s
   pub passes : Passes f (revOf s) n (drop 8 s)
-  pub ends : entriesEnd n 8 (drop 8 s) ≡ length s
 
 -- each of several entries has P
 abbrev pub Every : (List ℕ → Type 0) → List (List ℕ) → Type 0

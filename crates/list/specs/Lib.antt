@@ -5,4 +5,5 @@ pub mod Entry
 pub mod List
 pub mod Answer
 pub mod Good
+pub mod Spare
 pub mod Inner

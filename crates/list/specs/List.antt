@@ -66,11 +66,11 @@ unfoldable pub walkOf : Family → ℕ → ℕ → ℕ → List ℕ → (ℕ →
 walkOf f rev zero at t done = done at
 walkOf f rev (suc n) at t done = onGood (entryOf f rev t) at (walkOf f rev n (at + sizeOf t) (drop (sizeOf t) t) done)
 
--- where the entries end: they fill the list, or bytes remain from there on
+-- where the entries end: what follows there, up to the size, is spare and looked at by nothing
 unfoldable pub finish : ℕ → ℕ → ℕ → Reading
-finish len n end = cond (eqb end len) (Done len n) (Refused 2 end)
+finish len n end = Done len n end
 
--- a list without its index: the header (1), entry after entry (2 to 5), bytes that remain (2)
+-- a list without its index: the header (1), then entry after entry (2 to 5)
 unfoldable pub checkOf : Family → List ℕ → Reading
 checkOf f s =
     cond (headerOk s)
@@ -79,7 +79,7 @@ checkOf f s =
 
 -- a row of m elements holds the index of a good list, or there is no room (8)
 unfoldable pub withRow : ℕ → Reading → Reading
-withRow m (Done len n) = cond (leb n m) (Done len n) (Refused 8 0)
+withRow m (Done len n end) = cond (leb n m) (Done len n end) (Refused 8 0)
 withRow m (Refused k at) = Refused k at
 
 -- what the reader answers for the list s and a row of m elements
@@ -88,5 +88,5 @@ readOf f s m = withRow m (checkOf f s)
 
 -- the row afterwards: the offsets up to the count and the rest unchanged; as it was where the list is refused
 unfoldable pub rowBy : Reading → List ℕ → List ℕ → List ℕ
-rowBy (Done len n) s row = offsets n 8 (drop 8 s) ++ drop n row
+rowBy (Done len n end) s row = offsets n 8 (drop 8 s) ++ drop n row
 rowBy (Refused k at) s row = row

@@ -11,9 +11,9 @@ use crate::entries::Checked;
 use crate::entries::entry_of;
 use crate::numbers::half_at;
 
-// What reading a list finds: its length and its count, or a refusal's number and offset.
+// What reading a list finds: its length, its count and where its entries end, or a refusal's number and offset.
 pub enum Reading {
-    Done { length: u16, count: u16 },
+    Done { length: u16, count: u16, end: u16 },
     Refused { number: u8, at: u16 },
 }
 
@@ -74,15 +74,10 @@ fn walk(list: &[u8], rev: u8, count: u16) -> Reading
             }
         }
     }
-    if at != list.len() {
-        return Reading::Refused {
-            number: 2,
-            at: at as u16,
-        };
-    }
     Reading::Done {
         length: list.len() as u16,
         count,
+        end: at as u16,
     }
 }
 
@@ -118,12 +113,12 @@ pub fn read(list: &[u8], row: &mut [u16]) -> Reading
 {
     match check(list) {
         Reading::Refused { number, at } => Reading::Refused { number, at },
-        Reading::Done { length, count } => {
+        Reading::Done { length, count, end } => {
             if row.len() < count as usize {
                 return Reading::Refused { number: 8, at: 0 };
             }
             fill(list, count, row);
-            Reading::Done { length, count }
+            Reading::Done { length, count, end }
         }
     }
 }

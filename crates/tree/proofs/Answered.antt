@@ -54,7 +54,7 @@ formed-head r e = head-says r (formed-parts r e .head-ok)
 on-reading : (d : Reading) (which : ℕ) (r : List ℕ) (rest : Outcome) → ListNumber d → (faultBy d .number ≡ 0 → onReadingTo d which r rest ≡ rest)
     × ((faultBy d .number ≡ 0 → ⊥) → onReadingTo d which r rest ≡ refuse (faultBy d .number) which (faultBy d .offset) r)
 unfolding faultBy onReadingTo
-on-reading (Read l n) which r rest k = (λ h. refl, λ h. absurd (h refl))
+on-reading (Read l n x) which r rest k = (λ h. refl, λ h. absurd (h refl))
 on-reading (Unread j at) which r rest k = (λ h. absurd (omega (arith, k .0)), λ h. refl)
 
 pub readable-good : (o : MaybeList) (which : ℕ) (r : List ℕ) (rest : Outcome) → faultOf o .number ≡ 0 → readableTo o which r rest ≡ rest
@@ -70,7 +70,7 @@ readable-bad (some s) which r rest h = on-reading (checkOf access s) which r res
 
 reading-done : (d : Reading) → ListNumber d → faultBy d .number ≡ 0 → isDone d ≡ true
 unfolding faultBy
-reading-done (Read l n) k h = refl
+reading-done (Read l n x) k h = refl
 reading-done (Unread j at) k h = absurd (omega (arith, k .0))
 
 pub faults-reads : (o : MaybeList) → faultOf o .number ≡ 0 → reads o ≡ true

@@ -88,7 +88,7 @@ reads-source none h = absent-source
 reads-source (some s) h = by (checkOf access s) refl h
   where
     by : (r : Reading) → checkOf access s ≡ r → isDone r ≡ true → sourceOf (some s) .number ≡ 0
-    by (Done l n) e d = listed-source s n (told access s l n e .listed)
+    by (Done l n x) e d = listed-source s n (told access s l n x e .listed)
     by (Unread k at) e d = let z : _≡_ {A = ℕ} 0 1 = cc in absurd (omega arith)
 
 pub types-good : (b : List ℕ) → typesOk (typeOf b) ≡ true

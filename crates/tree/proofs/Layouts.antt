@@ -120,10 +120,11 @@ table =
     ∷ row 4 (0 ∷ []) false
     ∷ row 4 (1 ∷ []) true
     ∷ row 4 (3 ∷ []) false
-    -- a default list: neither present nor absent; of no bytes; the least one; one of 1,024 bytes, and with a length of 1,025
+    -- a default list: neither present nor absent; of no bytes; the least one; with three spare bytes; one of 1,024 bytes, and with a length of 1,025
     ∷ row 21 (2 ∷ []) false
     ∷ row 21 (1 ∷ []) false
     ∷ row 21 (1 ∷ 8 ∷ 0 ∷ 2 ∷ 0 ∷ 8 ∷ 0 ∷ []) true
+    ∷ row 21 (1 ∷ 11 ∷ 0 ∷ 2 ∷ 0 ∷ 11 ∷ 0 ∷ []) true
     ∷ row 21 (1 ∷ 0 ∷ 4 ∷ long-list 3) true
     ∷ row 21 (1 ∷ 1 ∷ 4 ∷ long-list 3) false
     -- object 0: a parent; no container; mark 1 and 2
@@ -131,7 +132,7 @@ table =
     ∷ row 1049 (0 ∷ []) false
     ∷ row 1050 (1 ∷ []) true
     ∷ row 1050 (2 ∷ []) false
-    -- its owner and its group: of 11 bytes, of 68 and of 69, S-1-3-0; its own list: neither present nor absent, cut
+    -- its owner and its group: of 11 bytes, of 68 and of 69, S-1-3-0; its own list: neither present nor absent, cut, with a spare byte
     ∷ row 1067 (11 ∷ []) false
     ∷ row 1067 (68 ∷ 1 ∷ 15 ∷ []) true
     ∷ row 1067 (69 ∷ 1 ∷ 15 ∷ []) false
@@ -142,9 +143,11 @@ table =
     ∷ row 1144 (3 ∷ 0 ∷ []) false
     ∷ row 1205 (2 ∷ []) false
     ∷ row 1206 (27 ∷ []) false
+    ∷ row 1206 (29 ∷ 0 ∷ 2 ∷ 0 ∷ 29 ∷ []) true
     -- its computed list likewise; bytes behind a list aren't looked at
     ∷ row 2232 (2 ∷ []) false
     ∷ row 2233 (27 ∷ []) false
+    ∷ row 2233 (29 ∷ 0 ∷ 2 ∷ 0 ∷ 29 ∷ []) true
     ∷ row 2263 (9 ∷ []) true
     -- the latest step: of no kind; of an add, where the next one is none of the object before it; of no object, of another one
     ∷ row 5470 (0 ∷ []) false

@@ -31,6 +31,8 @@ pub mod Numbers
 pub mod Reaches
 pub mod Worked
 pub mod Demand3
+pub mod Bare
+pub mod Spare
 pub mod Trees
 pub mod Layouts
 pub mod Exact

@@ -66,7 +66,7 @@ test-as b c k r o v e h = rw (← e) (need-as b k r o v h)
 module _ (which : ℕ) (r : List ℕ) (o : Outcome) (v : Values) where
   reading-as : (x : Reading) → (isDone x ≡ true → said o ≡ v) → said (onReadingTo x which r o) ≡ Values·onReading x which v
   unfolding onReadingTo Values·onReading
-  reading-as (Read l n) h = h refl
+  reading-as (Read l n x) h = h refl
   reading-as (Unread k at) h = refl
 
   pub readable-as : (l : MaybeList) → (reads l ≡ true → said o ≡ v) → said (readableTo l which r o) ≡ Values·readable l which v

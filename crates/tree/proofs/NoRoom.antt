@@ -188,7 +188,7 @@ reads-on none which v h = refl
 reads-on (some s) which v h = by (checkOf access s) h
   where
     by : (x : Reading) → isDone x ≡ true → onReading x which v ≡ v
-    by (Read l n) e = refl
+    by (Read l n x) e = refl
     by (Unread k at) e = let z : _≡_ {A = ℕ} 0 1 = cc in absurd (omega arith)
 
 need-on : (v w : Values) → need true v w ≡ w

@@ -88,7 +88,7 @@ numbered-need false k r o n h = n
 module _ (which : ℕ) (r : List ℕ) (o : Outcome) (h : Numbered (o .answer)) where
   numbered-reading : (x : Reading) → ListNumber x → Numbered (onReadingTo x which r o .answer)
   unfolding onReadingTo
-  numbered-reading (Read l n) k = h
+  numbered-reading (Read l n x) k = h
   numbered-reading (Unread j at) k = λ z. omega (arith, k .0)
 
   numbered-readable : (l : MaybeList) → Numbered (readableTo l which r o .answer)

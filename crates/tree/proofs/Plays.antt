@@ -78,8 +78,8 @@ refuses-ends r F o m x e = subst (λ (y : Outcome). Ends r y m) (sym (x .is)) (r
 reading-by : (s : List ℕ) (which : ℕ) (r : List ℕ) (rest : Outcome) (x : Reading) → checkOf access s ≡ x → (b : Bool) → isDone x ≡ b
     → cond b (onReadingTo x which r rest ≡ rest) (Refuses r (onReadingTo x which r rest))
 unfolding onReadingTo
-reading-by s which r rest (Read l n) e true h = refl
-reading-by s which r rest (Read l n) e false h = let z : _≡_ {A = ℕ} 0 1 = cc in absurd (omega arith)
+reading-by s which r rest (Read l n x) e true h = refl
+reading-by s which r rest (Read l n x) e false h = let z : _≡_ {A = ℕ} 0 1 = cc in absurd (omega arith)
 reading-by s which r rest (Unread k at) e true h = let z : _≡_ {A = ℕ} 0 1 = cc in absurd (omega arith)
 reading-by s which r rest (Unread k at) e false h = record { number = k; list = which; offset = at; is = refl }
 

@@ -5,7 +5,7 @@ use mathlib.Core.Bool.{Bool, true, false}
 use mathlib.Core.List.{List, [], _∷_, _++_, map, flatten}
 use mathlib.Core.Option.{Option, none, some}
 use Prim.Native.Nat.{ℕ, _+_, _-_, _*_, _≤_}
-use lib.ListN.{length, replicate}
+use lib.ListN.{length, drop, replicate}
 use lib.Dec.{leb}
 use borrow.Author.Tests.{le-leb}
 use Rattle.list.specs.Identity.{creator}
@@ -70,6 +70,13 @@ long-list n = list-with 0x03 n
 -- the same, all inherited
 abbrev inherited-list : ℕ → List ℕ
 inherited-list n = list-with 0x10 n
+
+-- no entry and spare bytes, of n bytes in all, n from 1,024 to 1,279; the worked parent's entry twice, and a count of 1
+abbrev spare-list : ℕ → List ℕ
+spare-list n = (0x02 ∷ 0 ∷ (n - 1024) ∷ 0x04 ∷ 0 ∷ 0 ∷ 0 ∷ 0 ∷ []) ++ replicate (n - 8) 7
+
+abbrev hidden-list : List ℕ
+hidden-list = bytes 0x30 1 (drop 8 (parentWith 0x03) ∷ drop 8 (parentWith 0x03) ∷ [])
 
 -- a root of such an owner, with such a list
 abbrev changed-root : List ℕ → List ℕ → Call
@@ -140,6 +147,13 @@ pub record Worked : Type 0 where
   pub given-inherited :
       answers (tree 2 16 none) (change (setList 0 (some (inherited-list 4))) ∷ folder none false (some (inherited-list 3)) ∷ folder none false (some (inherited-list 4)) ∷ [])
       ≡ refused 8 0 0 ∷ done 8 1 0 0 ∷ refused 8 0 0 ∷ []
+  -- spare bytes count for that; an own list is given back with them, and an entry behind the count is handed down to nobody
+  pub given-spare :
+      answers (tree 2 16 none) (change (setList 0 (some (spare-list 1025))) ∷ folder none false (some (spare-list 1024)) ∷ folder none false (some (spare-list 1025)) ∷ [])
+      ≡ refused 8 0 0 ∷ done 8 1 0 0 ∷ refused 8 0 0 ∷ []
+  pub kept-spare :
+      answers (tree 2 16 none) (read own-list 0 (replicate 48 0) ∷ read own-list 0 (replicate 47 0) ∷ child false none ∷ folder none false (some hidden-list) ∷ [])
+      ≡ done 48 1 1 0 ∷ refused 8 0 0 ∷ done 48 1 2 0 ∷ done 28 1 1 0 ∷ []
   pub computed-long : answers (tree 2 16 none) (child false none ∷ folder none false (some (long-list 3)) ∷ []) ≡ refused 8 0 0 ∷ done 1024 1 14 0 ∷ []
   pub told-long : told none ≡ refused 8 0 0
   -- the order: a list cut short before a placeholder, a placeholder before a list of over 1,024 bytes
@@ -151,12 +165,12 @@ pub record Worked : Type 0 where
       answers (tree 2 16 none) (child false none ∷ change (add (record { parent = none; container = false; mark = false; type = replicate 16 0; owner = system; group = system; list = none })) ∷ [])
       ≡ refused 9 0 0 ∷ done 0 0 0 0 ∷ []
   pub no-reading : answers (tree 2 16 none) (read own-list 1 [] ∷ read computed-list 0 [] ∷ root ∷ []) ≡ refused 9 0 0 ∷ refused 8 0 0 ∷ done 28 1 1 0 ∷ []
-  -- starts: limits of 0, 65 and 64, rule 3, too little room, a default list cut short, one of 1,028 bytes and one of 1,024
+  -- starts: limits of 0, 65 and 64, rule 3, too little room, a default list cut short, ones of 1,028, 1,024 and 1,025 bytes
   pub starts :
       map (λ (x : Settings × Bool). startAnswer (x .0) (x .1))
       ((settings 0 0 2 none, true) ∷ (settings 65 0 2 none, true) ∷ (settings 64 65 2 none, true) ∷ (settings 64 64 2 none, true) ∷ (settings 1 0 3 none, true) ∷ (settings 1 0 2 none, false)
-      ∷ (settings 1 0 2 (some []), true) ∷ (settings 1 0 2 (some (long-list 4)), true) ∷ (settings 1 0 2 (some (long-list 3)), true) ∷ [])
-      ≡ refused 12 0 0 ∷ refused 12 0 0 ∷ refused 12 0 0 ∷ done 0 0 0 0 ∷ refused 12 0 0 ∷ refused 12 0 0 ∷ refused 1 3 0 ∷ refused 8 0 0 ∷ done 0 0 0 0 ∷ []
+      ∷ (settings 1 0 2 (some []), true) ∷ (settings 1 0 2 (some (long-list 4)), true) ∷ (settings 1 0 2 (some (long-list 3)), true) ∷ (settings 1 0 2 (some (spare-list 1025)), true) ∷ [])
+      ≡ refused 12 0 0 ∷ refused 12 0 0 ∷ refused 12 0 0 ∷ done 0 0 0 0 ∷ refused 12 0 0 ∷ refused 12 0 0 ∷ refused 1 3 0 ∷ refused 8 0 0 ∷ done 0 0 0 0 ∷ refused 8 0 0 ∷ []
   -- what is read back of the root: its own list, its other data; and how many objects and steps there are
   pub own-read : answers (tree 2 16 none) (read own-list 0 (replicate 28 0) ∷ read own-list 0 (replicate 27 0) ∷ root ∷ []) ≡ done 28 1 1 0 ∷ refused 8 0 0 ∷ done 28 1 1 0 ∷ []
   pub data-read :
@@ -202,6 +216,8 @@ worked =
       bad-owner = refl;
       group-set = refl;
       given-long = refl;
+      given-spare = refl;
+      kept-spare = refl;
       computed-long = refl;
       given-inherited = refl;
       told-long = refl;

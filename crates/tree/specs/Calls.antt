@@ -54,7 +54,7 @@ refuse k which at r = record { answer = Refused k which at; bytes = r }
 
 -- a list that is present reads as done, or its refusal concerns list `which`
 unfoldable pub onReadingTo : Reading → ℕ → List ℕ → Outcome → Outcome
-onReadingTo (Read len n) which r rest = rest
+onReadingTo (Read len n end) which r rest = rest
 onReadingTo (Unread k at) which r rest = refuse k which at r
 
 unfoldable pub readableTo : MaybeList → ℕ → List ℕ → Outcome → Outcome

@@ -34,7 +34,7 @@ slotFor (some s) = 1 ∷ (spell 2 (length s) ++ (s ++ replicate (1024 - length s
 
 -- a list reads as done
 abbrev pub isDone : Reading → Bool
-isDone (Done len n) = true
+isDone (Done len n end) = true
 isDone (Refused k at) = false
 
 -- absent, or a list of at most 1,024 bytes that reads as done

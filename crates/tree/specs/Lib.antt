@@ -6,4 +6,5 @@ pub mod Formed
 pub mod Work
 pub mod Calls
 pub mod Shown
+pub mod Spare
 pub mod Inner

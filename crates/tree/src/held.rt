@@ -46,7 +46,7 @@ fn is_done(r: Reading) -> bool
     ensures { λ b. ⌜ b ≡ isDone r ⌝ }
 {
     match r {
-        Reading::Done { length, count } => true,
+        Reading::Done { length, count, end } => true,
         Reading::Refused { number, at } => false,
     }
 }

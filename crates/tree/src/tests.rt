@@ -22,7 +22,7 @@ fn fault_by(r: Reading) -> Fault
     ensures { λ f. ⌜ f ≡ faultBy r ⌝ }
 {
     match r {
-        Reading::Done { length, count } => Fault {
+        Reading::Done { length, count, end } => Fault {
             number: 0,
             offset: 0,
         },

@@ -47,7 +47,7 @@ fn run_read(list: &[u8], row: &mut [u16]) {
     let mut answer = [0u32; 8];
     prepare(row);
     capi::pt_read(list, row, &mut answer);
-    print_values(answer, 7);
+    print_values(answer, 8);
     print_row(row);
     end_line();
 }

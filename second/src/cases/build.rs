@@ -1,6 +1,6 @@
 //! Building good lists, entries and identities, whole or at random.
 
-use crate::list::{Guid, HEADER_LENGTH};
+use crate::list::{Guid, HEADER_LENGTH, List};
 use crate::random::Random;
 
 pub const MOST_NUMBERS: usize = 15;
@@ -166,6 +166,52 @@ pub fn random_list(random: &mut Random, revision: u8, count: usize) -> Vec<u8> {
     list_of_plans(revision, &plans)
 }
 
+/// The same list with these bytes behind it, inside its size.
+pub fn with_spare(list: &[u8], spare: &[u8]) -> Vec<u8> {
+    let mut list = [list, spare].concat();
+    fix_size(&mut list);
+    list
+}
+
+/// A good list up to where its entries end; another as it is.
+pub fn without_spare(list: &[u8]) -> Vec<u8> {
+    let mut kept = list.to_vec();
+    if let Ok(parsed) = List::parse(list) {
+        kept.truncate(parsed.end);
+        fix_size(&mut kept);
+    }
+    kept
+}
+
+/// The same list with a count that hides its last entries.
+pub fn with_count(list: &[u8], count: usize) -> Vec<u8> {
+    let mut list = list.to_vec();
+    set_count(&mut list, count);
+    list
+}
+
+/// The same list with a smaller count, where it has an entry.
+pub fn hiding_some(random: &mut Random, list: &[u8]) -> Vec<u8> {
+    let count = usize::from(u16::from_le_bytes([list[4], list[5]]));
+    with_count(list, random.below(count.max(1)))
+}
+
+/// So many bytes of any kind: noise, zeros, all FF, or what looks like
+/// entries, good ones and bad ones.
+pub fn random_spare(random: &mut Random, length: usize) -> Vec<u8> {
+    let mut entry = EntryPlan::random(random, false).bytes();
+    match random.below(6) {
+        0 => return vec![0; length],
+        1 => return vec![0xFF; length],
+        2 => return random.bytes(length),
+        3 => entry[random.below(4)] ^= 1 << random.below(8),
+        // It would be inherited.
+        4 => entry[1] = 0x03,
+        _ => {}
+    }
+    entry.into_iter().cycle().take(length).collect()
+}
+
 /// Makes the size field the length, cut to 16 bits.
 pub fn fix_size(list: &mut [u8]) {
     if list.len() >= HEADER_LENGTH {
@@ -185,6 +231,7 @@ pub fn set_count(list: &mut [u8], count: usize) {
 #[cfg(test)]
 mod tests {
     use super::*;
+    use crate::list::spare_bytes;
 
     #[test]
     fn an_entry_is_laid_out_as_document_01_says() {
@@ -197,6 +244,23 @@ mod tests {
             0, 0,
         ];
         assert_eq!(list_of_plans(2, &[plan]), parent);
+    }
+
+    #[test]
+    fn spare_bytes_come_and_go() {
+        let good = good_list(&[EntryPlan::plain(0, 3, nt_sid(&[18]))]);
+        let mut random = Random::new(1);
+        for length in 0..80 {
+            let spare = random_spare(&mut random, length);
+            let list = with_spare(&good, &spare);
+            assert_eq!(list.len(), good.len() + length);
+            assert_eq!(list[good.len()..], spare);
+            assert_eq!(spare_bytes(&list), length);
+            assert_eq!(without_spare(&list), good);
+        }
+        let hidden = with_count(&good, 0);
+        assert_eq!(without_spare(&hidden), good_list(&[]));
+        assert_eq!(without_spare(&[9; 9]), [9; 9]);
     }
 
     #[test]

@@ -146,14 +146,9 @@ impl Inputs {
 }
 
 fn list_if_present(request: &Request, which: WhichList) -> Result<Option<Vec<Ace>>, Refused> {
-    let (bit, bytes) = match which {
-        WhichList::Parent => (setting::PARENT, &request.parent),
-        WhichList::Creator => (setting::CREATOR, &request.creator),
-        WhichList::Default => (setting::DEFAULT_LIST, &request.default_list),
-    };
-    if !request.has(bit) {
+    let Some(bytes) = request.list(which) else {
         return Ok(None);
-    }
+    };
     let list = List::parse(bytes).map_err(|refusal| Refused::List(which, refusal))?;
     Ok(Some(list.entries.iter().map(Ace::from).collect()))
 }

@@ -1,5 +1,7 @@
 //! What a computation is asked with, good or not.
 
+use super::inputs::WhichList;
+
 /// The bits of the settings; others aren't looked at.
 pub mod setting {
     pub const PARENT: u32 = 1;
@@ -31,6 +33,16 @@ pub struct Request {
 impl Request {
     pub fn has(&self, setting: u32) -> bool {
         self.settings & setting != 0
+    }
+
+    /// The bytes of a list that is present.
+    pub fn list(&self, which: WhichList) -> Option<&[u8]> {
+        let (bit, bytes) = match which {
+            WhichList::Parent => (setting::PARENT, &self.parent),
+            WhichList::Creator => (setting::CREATOR, &self.creator),
+            WhichList::Default => (setting::DEFAULT_LIST, &self.default_list),
+        };
+        self.has(bit).then_some(bytes)
     }
 
     pub fn with_rule(self, rule: u32) -> Request {

@@ -206,6 +206,59 @@ fn own_entries_drop_inherited_ones_and_the_default_list_keeps_them() {
     assert_done_by_either_rule(request.with_default(bytes(&list)), &kept, 3);
 }
 
+/// With bytes behind it, inside the stated size.
+fn with_spare(list: Vec<u8>, spare: &[u8]) -> Vec<u8> {
+    let mut list = [&list[..], spare].concat();
+    let length = list.len() as u16;
+    list[2..4].copy_from_slice(&length.to_le_bytes());
+    list
+}
+
+#[test]
+fn spare_bytes_of_any_list_change_nothing() {
+    let entry = &bytes(&one_entry("03"))[8..];
+    for spare in [&[0][..], &[0xFF; 3], entry, &[7, 0, 4, 0]] {
+        let roomy = |list: Vec<u8>| with_spare(list, spare);
+        let k9 = worked::k9();
+        let both = k9
+            .clone()
+            .with_parent(roomy(k9.parent.clone()))
+            .with_creator(roomy(k9.creator.clone()))
+            .with_default(roomy(bytes(EMPTY)));
+        assert_eq!(run(&both), run(&k9));
+        let default_list = bytes(&one_entry("1B"));
+        let request = worked::k6().with_default(roomy(default_list));
+        assert_done_by_either_rule(request, &one_entry("1B"), 1);
+        let request = worked::k6().with_creator(roomy(bytes(EMPTY)));
+        assert_done_by_either_rule(request, EMPTY, 0);
+    }
+}
+
+/// Document 01's parent with a count of 0: its entry would be inherited.
+#[test]
+fn hidden_entries_are_not_there() {
+    let hidden = |list: Vec<u8>| [&list[..4], &[0], &list[5..]].concat();
+    let request = worked::k1().with_parent(hidden(worked::k1().parent));
+    for rule in [1, 2] {
+        let request = request.clone().with_rule(rule);
+        assert_eq!(run(&request), ([0; 8], Vec::new()));
+    }
+    let default_list = bytes(&one_entry("00"));
+    let with_default = request.clone().with_default(default_list.clone());
+    assert_done_by_either_rule(with_default, &one_entry("00"), 1);
+    let of_creator = request.clone().with_creator(hidden(default_list.clone()));
+    assert_done_by_either_rule(of_creator, EMPTY, 0);
+    assert_done_by_either_rule(request.with_default(hidden(default_list)), EMPTY, 0);
+}
+
+#[test]
+fn a_bad_entry_is_refused_before_spare_bytes() {
+    let bad = with_spare(bytes(&one_entry("20")), &[0; 5]);
+    assert_refused(&worked::k1().with_parent(bad.clone()), 4, 1, 8);
+    assert_refused(&worked::k1().with_creator(bad.clone()), 4, 2, 8);
+    assert_refused(&worked::k1().with_default(bad), 4, 3, 8);
+}
+
 /// Flags 03: with an ObjectType, with an InheritedObjectType, with both.
 fn object_parent() -> Vec<u8> {
     bytes(&format!(
@@ -360,6 +413,13 @@ fn results_of_at_most_65532_bytes() {
         compute(&request, &mut room).eight(),
         [0, 0, 0, 65_532, 1, 863, 0, 0]
     );
+    // A longer list is an input like any other: 65,532 limits results alone.
+    for spare in 1..=3 {
+        let default_list = with_spare(request.default_list.clone(), &vec![0xFF; spare]);
+        assert_eq!(default_list.len(), 65_532 + spare);
+        let done = compute(&request.clone().with_default(default_list), &mut room);
+        assert_eq!(done.eight(), [0, 0, 0, 65_532, 1, 863, 0, 0]);
+    }
     let longer_owner = Request {
         owner: bytes("01 02 000000000005 12000000 00000000"),
         ..request

@@ -22,6 +22,20 @@ fn changed(text: &str, changes: &[(usize, u8)]) -> Vec<u8> {
     list
 }
 
+/// The number of entries and where they end.
+fn count_and_end(list: &[u8]) -> (usize, usize) {
+    let parsed = List::parse(list).unwrap();
+    (parsed.entries.len(), parsed.end)
+}
+
+/// With bytes behind it, inside the stated size.
+fn with_spare(text: &str, spare: &[u8]) -> Vec<u8> {
+    let mut list = [&bytes(text)[..], spare].concat();
+    let length = list.len() as u16;
+    list[2..4].copy_from_slice(&length.to_le_bytes());
+    list
+}
+
 fn refusal(list: &[u8]) -> (u32, usize) {
     let refusal = List::parse(list).unwrap_err();
     (refusal.fault.number(), refusal.offset)
@@ -39,6 +53,7 @@ fn fields_of_a_plain_entry() {
     assert_eq!((entry.flags, entry.mask), (3, 0x80000000));
     assert_eq!(entry.object_type, None);
     assert_eq!(entry.sid, &list[16..]);
+    assert_eq!(parsed.end, 28);
 }
 
 #[test]
@@ -55,7 +70,7 @@ fn fields_of_an_object_entry() {
 #[test]
 fn empty_lists_are_good() {
     for text in ["0200080000000000", "0400080000000000"] {
-        assert!(List::parse(&bytes(text)).unwrap().entries.is_empty());
+        assert_eq!(count_and_end(&bytes(text)), (0, 8));
     }
 }
 
@@ -78,10 +93,71 @@ fn a_list_of_65536_bytes_is_refused_by_its_header() {
 }
 
 #[test]
-fn counts_that_do_not_fit() {
+fn a_count_past_the_entries_is_refused() {
     assert_eq!(refusal(&changed(PAIR, &[(4, 3)])), (2, 40));
-    assert_eq!(refusal(&changed(PAIR, &[(4, 1)])), (2, 24));
-    assert_eq!(refusal(&changed(PAIR, &[(4, 0)])), (2, 8));
+    assert_eq!(refusal(&changed(PAIR, &[(5, 1)])), (2, 40));
+}
+
+#[test]
+fn a_smaller_count_hides_the_entries_behind_it() {
+    assert_eq!(count_and_end(&bytes(PAIR)), (2, 40));
+    assert_eq!(count_and_end(&changed(PAIR, &[(4, 1)])), (1, 24));
+    assert_eq!(count_and_end(&changed(PAIR, &[(4, 0)])), (0, 8));
+    // Bad ones too: type, flags, size and SID of the second.
+    let bad = [(4, 1), (24, 9), (25, 0xFF), (26, 0xFF), (32, 2)];
+    assert_eq!(count_and_end(&changed(PAIR, &bad)), (1, 24));
+}
+
+#[test]
+fn spare_bytes_may_be_any() {
+    for spare in [&[0][..], &[0xFF; 3], &[5, 0, 4, 0], &[0; 40]] {
+        assert_eq!(count_and_end(&with_spare(PAIR, spare)), (2, 40));
+        assert_eq!(count_and_end(&with_spare(OBJECT, spare)), (1, 44));
+        assert_eq!(spare_bytes(&with_spare(PARENT, spare)), spare.len());
+    }
+    // What looks like an entry is one only where the count says so.
+    let twice = with_spare(PARENT, &bytes(PARENT)[8..]);
+    assert_eq!(count_and_end(&twice), (1, 28));
+    let mut counted = twice;
+    counted[4] = 2;
+    assert_eq!(count_and_end(&counted), (2, 48));
+    assert_eq!(spare_bytes(&counted), 0);
+}
+
+#[test]
+fn the_size_is_the_length_with_spare_bytes_too() {
+    let mut list = with_spare(PAIR, &[0; 5]);
+    for size in [40, 44, 46] {
+        list[2] = size;
+        assert_eq!(refusal(&list), (1, 0));
+    }
+    list[2] = 45;
+    assert_eq!(count_and_end(&list), (2, 40));
+}
+
+/// An entry may use what would be spare: it is bad by its own tests.
+#[test]
+fn a_bad_entry_before_spare_bytes() {
+    for (at, value, number) in [(24, 7, 3), (25, 0x20, 4), (26, 17, 2), (32, 2, 5)] {
+        let mut list = with_spare(PAIR, &[0; 9]);
+        list[at] = value;
+        assert_eq!(refusal(&list), (number, 24), "{at}");
+    }
+    // The size is at most what remains, spare bytes among it.
+    let mut list = with_spare(PAIR, &[0; 4]);
+    list[26] = 20;
+    assert_eq!(refusal(&list), (2, 24));
+    list[33] = 1;
+    assert_eq!(count_and_end(&list), (2, 44));
+}
+
+#[test]
+fn lists_of_up_to_65535_bytes() {
+    for length in [65_532, 65_533, 65_534, 65_535] {
+        let list = with_spare(PAIR, &vec![0xEE; length - 40]);
+        assert_eq!(count_and_end(&list), (2, 40));
+        assert_eq!(spare_bytes(&list), length - 40);
+    }
 }
 
 #[test]

@@ -42,6 +42,14 @@ fn put_own_data(room: &mut [u8], at: usize, parent_kind_mark: &str, list: Option
     }
 }
 
+/// With bytes behind it, inside the stated size, up to this length.
+fn filled_up(list: &str, length: usize) -> String {
+    let mut list = bytes(list);
+    list.resize(length, 0xEE);
+    list[2..4].copy_from_slice(&(length as u16).to_le_bytes());
+    hex::encode(&list)
+}
+
 /// Two objects; the second was added, then its mark was set. Their computed
 /// lists are good and far from fresh. Noise lies wherever nothing looks.
 fn room() -> Vec<u8> {
@@ -235,7 +243,6 @@ fn slots() {
             (2, 1),
             (3, 3),
             (4, 1),
-            (7, 0),
             (7, 2),
             (12, 0x20),
             (19, 2),
@@ -244,6 +251,18 @@ fn slots() {
             let mut bad = good.clone();
             bad[slot + at] = value;
             assert_bad(&bad);
+        }
+        // The entry is hidden by a count of 0, or bytes stand behind it.
+        let mut hidden = good.clone();
+        hidden[slot + 7] = 0;
+        assert!(read(&hidden).is_ok(), "{slot}");
+        for length in [29, 48, 1_024] {
+            let mut roomy = room();
+            put_list(&mut roomy, slot, &filled_up(PARENT, length));
+            assert!(read(&roomy).is_ok(), "{slot} {length}");
+            // The size field says 1 less than the slot.
+            roomy[slot + 5] = roomy[slot + 5].wrapping_sub(1);
+            assert_bad(&roomy);
         }
         // Of an absent list nothing more is asked.
         let mut absent = good.clone();
@@ -254,6 +273,35 @@ fn slots() {
         behind[slot + 3 + 28..slot + 1_027].fill(0xFF);
         assert!(read(&behind).is_ok(), "{slot}");
     }
+}
+
+/// Any list of a room may have spare bytes. No call leaves a computed one
+/// with them, and own ones stay as they are.
+#[test]
+fn spare_bytes_in_a_room() {
+    let mut made = room();
+    let roomy = filled_up(PARENT, 40);
+    put_own_data(&mut made, OBJECTS[0], "FF 01 00", Some(&roomy));
+    put_list(&mut made, LISTS[0], &filled_up(EMPTY, 11));
+    put_list(&mut made, LISTS[1], &filled_up(PARENT, 1_024));
+    put_own_data(&mut made, STEPS[0] + 2, "00 01 00", Some(&roomy));
+    let mut found = read(&made).unwrap();
+    let mut out = [0; 1_024];
+    let stored = found.read_back(Part::List, 0, &mut out).unwrap();
+    assert_eq!(stored.eight(), [0, 0, 0, 11, 1, 0, 0, 0]);
+    assert_eq!(out[..11], bytes(&filled_up(EMPTY, 11)));
+    let stored = found.read_back(Part::List, 1, &mut out).unwrap();
+    assert_eq!(stored.eight(), [0, 0, 0, 1_024, 1, 1, 0, 0]);
+    let own = found.read_back(Part::Own, 0, &mut out).unwrap();
+    assert_eq!(own.eight(), [0, 0, 0, 40, 1, 1, 0, 0]);
+    assert_eq!(out[..40], bytes(&roomy));
+
+    found.undo().unwrap();
+    let lengths: Vec<usize> = found.lists.iter().flatten().map(Vec::len).collect();
+    // The child has its own list and the root's entry twice.
+    assert_eq!(lengths, [28, 68]);
+    assert_eq!(found.objects[1].own_list, Some(bytes(&roomy)));
+    assert_eq!(read(&lay_out(&found)), Ok(found));
 }
 
 #[test]

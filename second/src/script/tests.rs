@@ -133,6 +133,32 @@ fn every_record_and_its_undo() {
     assert_plays(&format!("{closed} 0505 0505"), "objects 0\n");
 }
 
+/// The root's list is document 01's parent and bytes up to 1,024, then up to
+/// 1,025; the records are as long as their lists say.
+#[test]
+fn lists_with_spare_bytes() {
+    let filled_up = |length: u16| {
+        let size = hex::encode(&length.to_le_bytes());
+        let entry = "00 03 1400 00000080 01 01 000000000003 00000000";
+        let spare = "05".repeat(usize::from(length) - 28);
+        format!("{size} 02 00 {size} 0100 0000 {entry} {spare}")
+    };
+    let below = add("00", "01", "00", NO_LIST);
+    for length in [29, 48, 1_024] {
+        let root = add("FF", "01", "00", &filled_up(length));
+        let text = "objects 2\n0 28 1\n1 48 2\n";
+        assert_plays(&format!("{HEAD_HEX} {root} {below}"), text);
+        let set = format!("02 00 {}", filled_up(length));
+        assert_plays(&format!("{} 02 00 0000 {set}", document()), text);
+    }
+    for length in [1_025, 65_535] {
+        let root = add("FF", "01", "00", &filled_up(length));
+        assert_plays(&format!("{HEAD_HEX} {root}"), "objects 0\n");
+        let set = format!("02 01 {}", filled_up(length));
+        assert_plays(&format!("{} {set} 05", document()), "objects 1\n0 28 1\n");
+    }
+}
+
 #[test]
 fn sixteen_objects_and_sixteen_steps() {
     let below = add("00", "00", "00", NO_LIST);

@@ -527,6 +527,91 @@ fn given_and_computed_lists_of_exactly_1024_bytes() {
     assert_refused(&mut tree, set_owner(0, &owner(4), SYSTEM), 8, 0, 0);
 }
 
+/// With bytes behind it, inside the stated size, up to this length.
+fn filled_up(list: &str, length: usize) -> String {
+    let mut list = bytes(list);
+    list.resize(length, 0xEE);
+    list[2..4].copy_from_slice(&(length as u16).to_le_bytes());
+    hex::encode(&list)
+}
+
+#[track_caller]
+fn assert_own(tree: &Tree, number: u32, list: &str, count: u32) {
+    let mut out = [0x77; 1_030];
+    let answer = tree.read_back(Part::Own, number, &mut out).unwrap();
+    let list = bytes(list);
+    let length = list.len() as u32;
+    assert_eq!(answer.eight(), [0, 0, 0, length, 1, count, 0, 0]);
+    assert_eq!(out[..list.len()], list);
+    assert!(out[list.len()..].iter().all(|&byte| byte == 0x77));
+}
+
+#[test]
+fn own_lists_are_kept_with_their_spare_bytes() {
+    let mut tree = tree(3, 8);
+    let roomy = filled_up(PARENT, 31);
+    assert_done(&mut tree, root(&roomy), 28, 1, 1);
+    assert_done(&mut tree, add(0, CONTAINER, ""), 48, 1, 2);
+    assert_own(&tree, 0, &roomy, 1);
+    assert_list(&tree, 0, ROOTS);
+    assert_list(&tree, 1, K1);
+    let empty = filled_up(EMPTY, 9);
+    assert_done(&mut tree, set_list(0, &empty), 8, 1, 0);
+    assert_own(&tree, 0, &empty, 0);
+    assert_list(&tree, 0, EMPTY);
+    // What a smaller count hides is not there, and comes back with the list.
+    let hidden = PARENT.replacen("1C 00 01", "1C 00 00", 1);
+    assert_done(&mut tree, set_list(0, &hidden), 8, 1, 0);
+    assert_own(&tree, 0, &hidden, 0);
+    assert_eq!(tree.list(1), None);
+    tree.undo().unwrap();
+    assert_own(&tree, 0, &empty, 0);
+    tree.undo().unwrap();
+    assert_own(&tree, 0, &roomy, 1);
+    assert_list(&tree, 1, K1);
+}
+
+#[test]
+fn spare_bytes_count_for_the_length_of_a_list_given() {
+    let mut tree = tree(2, 4);
+    let longest = filled_up(PARENT, 1_024);
+    assert_done(&mut tree, root(&longest), 28, 1, 1);
+    assert_own(&tree, 0, &longest, 1);
+    for length in [1_025, 1_028, 65_535] {
+        let longer = filled_up(PARENT, length);
+        assert_refused(&mut tree, set_list(0, &longer), 8, 0, 0);
+        let listed = add(0, CONTAINER | OWN_LIST, &longer);
+        assert_refused(&mut tree, listed, 8, 0, 0);
+    }
+    // A bad entry comes before the length.
+    let bad = filled_up(&PARENT.replace("00 03 14 00", "00 23 14 00"), 1_025);
+    assert_refused(&mut tree, set_list(0, &bad), 4, 2, 8);
+    // They never count in what is computed: 8 + 12 * 76 bytes below the root.
+    assert_done(&mut tree, add(0, CONTAINER, ""), 48, 1, 2);
+    let six = filled_up(&long_entries(6), 1_024);
+    assert_done(&mut tree, set_list(0, &six), 464, 1, 6);
+    assert_eq!(tree.list(1).unwrap().len(), 920);
+    let seven = filled_up(&long_entries(7), 1_024);
+    assert_refused(&mut tree, set_list(0, &seven), 8, 0, 0);
+}
+
+#[test]
+fn a_default_list_may_have_spare_bytes() {
+    let with_default = |length| Start {
+        has_default: 1,
+        default_list: bytes(&filled_up(PARENT, length)),
+        ..start(2, 2)
+    };
+    for length in [29, 1_024] {
+        let mut tree = started(&with_default(length));
+        assert_done(&mut tree, add(NO_PARENT, CONTAINER, ""), 28, 1, 1);
+        assert_done(&mut tree, add(0, CONTAINER, ""), 48, 1, 2);
+        assert_list(&tree, 0, ROOTS);
+    }
+    let refused = Tree::start(room(2, 2), &with_default(1_025)).unwrap_err();
+    assert_eq!(refused, Refused::DefaultTooLong);
+}
+
 #[test]
 fn chains_grow_with_every_level() {
     let mut tree = tree(64, 0);

@@ -18,17 +18,20 @@ cast-put-values c = search needs
 cast-put-values-2 : tie.Need-cast-put-values-2
 cast-put-values-2 c = search needs
 
+cast-put-values-3 : tie.Need-cast-put-values-3
+cast-put-values-3 c = search needs
+
 put-values-requires : tie.Need-put-values-requires
 put-values-requires c κs = search needs
 
 enum-known-number : tie.Need-enum-known-number
 enum-known-number c = search needs
 
-cast-put-values-3 : tie.Need-cast-put-values-3
-cast-put-values-3 c = search needs
-
 cast-put-values-4 : tie.Need-cast-put-values-4
 cast-put-values-4 c = search needs
+
+cast-put-values-5 : tie.Need-cast-put-values-5
+cast-put-values-5 c = search needs
 
 put-values-requires-2 : tie.Need-put-values-requires-2
 put-values-requires-2 c κs = search needs
@@ -57,10 +60,11 @@ pt-read-spec =
     enum-known-length
     cast-put-values
     cast-put-values-2
+    cast-put-values-3
     put-values-requires
     enum-known-number
-    cast-put-values-3
     cast-put-values-4
+    cast-put-values-5
     put-values-requires-2
     same-length
     returns

@@ -19,7 +19,7 @@ given none = false
 given (some s) = true
 
 unfoldable pub sourceBy : Reading → ℕ → Source
-sourceBy (Done len n) rev = record { number = 0; offset = 0; rev = rev; count = n }
+sourceBy (Done len n end) rev = record { number = 0; offset = 0; rev = rev; count = n }
 sourceBy (Refused k at) rev = record { number = k; offset = at; rev = 0; count = 0 }
 
 unfoldable pub sourceOf : MaybeList → Source

@@ -23,7 +23,7 @@ addFault r p = cond (formed r) (cond (placedIn (λ j. ownData j r) (objects r) p
 
 -- a list that is given or not, by its reading
 unfoldable pub faultBy : Reading → Fault
-faultBy (Read len n) = record { number = 0; offset = 0 }
+faultBy (Read len n end) = record { number = 0; offset = 0 }
 faultBy (Unread k at) = record { number = k; offset = at }
 
 unfoldable pub faultOf : MaybeList → Fault

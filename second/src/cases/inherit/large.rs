@@ -29,7 +29,7 @@ pub fn cases() -> Vec<Case> {
 }
 
 /// Entries with these flags that are `bytes` long together, each at most 76.
-fn entries_of(flags: u8, bytes: usize) -> Vec<EntryPlan> {
+pub fn entries_of(flags: u8, bytes: usize) -> Vec<EntryPlan> {
     const LONGEST_PLAIN: usize = 76;
     let count = bytes.div_ceil(LONGEST_PLAIN);
     let quarters = bytes / 4;

@@ -11,6 +11,7 @@ mod object_types;
 mod placeholders;
 pub(super) mod refusals;
 mod rooms;
+pub mod spare;
 pub(super) mod ways;
 pub mod worked;
 
@@ -42,6 +43,7 @@ pub fn all() -> Vec<Case> {
     made.extend(fault_orders::cases(&mut random));
     made.extend(fresh::cases(&mut random));
     made.extend(large::cases());
+    made.extend(spare::cases(&mut random));
     joined(worked::cases(), made)
 }
 
@@ -104,13 +106,18 @@ mod tests {
             assert!(tally.count(label) >= 50, "{label}");
         }
         assert!(tally.count("compute 8  over 65,532 bytes") >= 3);
+        for which in WhichList::ALL {
+            let label = format!("compute 0  spare bytes: {}", which.name());
+            assert!(tally.count(&label) >= 100, "{label}");
+        }
     }
 
     #[test]
     fn the_file_stays_small_and_the_same() {
         let cases = all();
-        assert!(encode_all(&cases).len() <= 1_200_000);
-        assert!((3_000..=4_500).contains(&cases.len()));
+        // Three of those with spare bytes have about 65,000 bytes.
+        assert!(encode_all(&cases).len() <= 1_500_000);
+        assert!((3_000..=5_000).contains(&cases.len()));
         assert_eq!(cases, all());
     }
 }

@@ -39,7 +39,7 @@ pub fn bad_lists() -> Vec<Vec<u8>> {
         list[at] = value;
         lists.push(list);
     }
-    for count in [0, 1, 3] {
+    for count in [4, 0xFFFF, 3] {
         let mut list = good.clone();
         set_count(&mut list, count);
         lists.push(list);
@@ -48,7 +48,9 @@ pub fn bad_lists() -> Vec<Vec<u8>> {
     set_size(&mut short_size, 8);
     let mut with_tail = [&good[..], &[0]].concat();
     lists.extend([short_size, with_tail.clone()]);
+    // A spare byte helps no bad entry.
     fix_size(&mut with_tail);
+    with_tail[9] |= 0x20;
     lists.push(with_tail);
     for spoil in one_of_each(&plain) {
         lists.push(list_of(4, &[spoilt(&plain, &[spoil]), object.bytes()]));

@@ -1,5 +1,6 @@
-//! Sizes at their limits. Entries are multiples of 4 bytes, so no good list
-//! is longer than 65,532 bytes, and 4,095 entries are the most it holds.
+//! Sizes at their limits. Entries are multiples of 4 bytes, so those of a good
+//! list end at 65,532 at most, with up to three spare bytes behind them, and
+//! 4,095 entries are the most it holds.
 
 use crate::cases::build::{
     EntryPlan, fix_size, list_of, list_of_plans, nt_sid, set_count, set_size,
@@ -7,7 +8,7 @@ use crate::cases::build::{
 use crate::records::Case;
 
 const SMALLEST_ENTRY: usize = 16;
-const LONGEST_GOOD: usize = 65_532;
+const LONGEST_WITHOUT_SPARE: usize = 65_532;
 const MOST_ENTRIES: usize = 4_095;
 
 pub fn cases() -> Vec<Case> {
@@ -26,17 +27,17 @@ fn longest_good() -> Vec<u8> {
     let mut plans = vec![smallest(); MOST_ENTRIES - 1];
     plans.push(EntryPlan::plain(1, 0, nt_sid(&[18])));
     let list = list_of_plans(2, &plans);
-    assert_eq!(list.len(), LONGEST_GOOD);
+    assert_eq!(list.len(), LONGEST_WITHOUT_SPARE);
     list
 }
 
 /// 584 entries of 112 bytes, then one of 96 and one of 20.
-fn longest_of_large_entries() -> Vec<u8> {
+pub fn longest_of_large_entries() -> Vec<u8> {
     let mut plans = vec![EntryPlan::object(5, 0, 3, nt_sid(&[7; 15])); 584];
     plans.push(EntryPlan::object(6, 0, 3, nt_sid(&[7; 11])));
     plans.push(EntryPlan::plain(1, 0, nt_sid(&[18])));
     let list = list_of_plans(4, &plans);
-    assert_eq!(list.len(), LONGEST_GOOD);
+    assert_eq!(list.len(), LONGEST_WITHOUT_SPARE);
     list
 }
 
@@ -62,7 +63,7 @@ fn large() -> Vec<Case> {
     let mut all_counts = longest.clone();
     set_count(&mut all_counts, 0xFFFF);
     let mut bad_at_the_end = longest_of_large_entries();
-    bad_at_the_end[LONGEST_GOOD - 12] = 2;
+    bad_at_the_end[LONGEST_WITHOUT_SPARE - 12] = 2;
     vec![
         Case::read(MOST_ENTRIES, longest.clone()),
         Case::read(MOST_ENTRIES - 1, longest.clone()),
@@ -71,7 +72,7 @@ fn large() -> Vec<Case> {
         Case::read(600, bad_at_the_end),
         Case::read(2, all_counts),
         Case::read(2, one_count_more),
-        Case::read(2, lengthened(longest.clone(), 65_535, 65_535)),
+        Case::read(MOST_ENTRIES, lengthened(longest.clone(), 65_535, 65_535)),
         Case::read(2, lengthened(longest.clone(), 65_536, 0)),
         Case::read(2, lengthened(longest.clone(), 65_536, 65_535)),
         Case::read(2, lengthened(longest, 65_544, 8)),

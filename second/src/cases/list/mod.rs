@@ -7,6 +7,7 @@ pub(super) mod identities;
 mod noise;
 mod rows;
 mod single_faults;
+mod spare;
 mod valid;
 
 use super::joined;
@@ -28,6 +29,7 @@ pub fn all(examples: &[Example]) -> Vec<Case> {
     made.extend(boundaries::cases());
     made.extend(rows::cases(&mut random));
     made.extend(identities::cases(&mut random));
+    made.extend(spare::cases(&mut random));
 
     joined(examples.iter().map(Example::case).collect(), made)
 }
@@ -54,6 +56,7 @@ mod tests {
         for label in ["read 0", "identity 0", "identity 6"] {
             assert!(tally.count(label) >= 100, "{label}");
         }
+        assert!(tally.count("read 0  spare bytes") >= 300);
         for label in ["identity 1", "identity 2"] {
             assert!(tally.count(label) >= 1, "{label}");
         }
@@ -62,8 +65,9 @@ mod tests {
     #[test]
     fn the_file_stays_small_and_the_same() {
         let cases = all(&[]);
-        assert!(encode_all(&cases).len() <= 1_500_000);
-        assert!((3_000..=4_600).contains(&cases.len()));
+        // Ten of them have about 65,000 bytes, half of those spare bytes.
+        assert!(encode_all(&cases).len() <= 1_800_000);
+        assert!((3_000..=5_200).contains(&cases.len()));
         assert_eq!(cases, all(&[]));
     }
 }

@@ -14,12 +14,15 @@ const LONGEST: usize = 3_500;
 
 pub fn scripts(random: &mut Random) -> Vec<Vec<u8>> {
     let faults = Faults::draw(random);
-    (0..STORED).map(|_| one(random, &faults)).collect()
+    (0..STORED)
+        .map(|_| one(random, &faults, |palette| palette))
+        .collect()
 }
 
-fn one(random: &mut Random, faults: &Faults) -> Vec<u8> {
+/// `refine` is asked what to draw from.
+pub fn one(random: &mut Random, faults: &Faults, refine: fn(Palette) -> Palette) -> Vec<u8> {
     let heavy = random.chance(1, 6);
-    let palette = Palette::of_weight(random, heavy);
+    let palette = refine(Palette::of_weight(random, heavy));
     let wanted = 10 + random.below(40);
     let mut script = records(random, &palette, wanted, |random, change| {
         if random.chance(1, 16) {
@@ -30,7 +33,7 @@ fn one(random: &mut Random, faults: &Faults) -> Vec<u8> {
         damage(random, &mut script);
     }
     if script.len() > LONGEST {
-        return one(random, faults);
+        return one(random, faults, refine);
     }
     script
 }

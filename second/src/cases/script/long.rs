@@ -22,7 +22,7 @@ pub fn scripts() -> Vec<Vec<u8>> {
     assert_eq!(longest.len(), LONGEST_RECORD);
     let good_but_too_long = list_of_length(0x03, LONGEST_LIST - 3);
     let scripts = [
-        document().change(set_list(0, bytes_remain())).undo(1),
+        document().change(set_list(0, longest_list())).undo(1),
         document().add(below(0, LEAF).with_list(good_but_too_long)),
         document()
             .raw(&longest)
@@ -37,8 +37,8 @@ pub fn scripts() -> Vec<Vec<u8>> {
     scripts.map(Script::bytes).into()
 }
 
-/// Good up to its last three bytes.
-fn bytes_remain() -> Vec<u8> {
+/// Good, with three spare bytes, and too long for a tree.
+fn longest_list() -> Vec<u8> {
     let mut list = list_of_length(0x03, LONGEST_LIST - 3);
     list.extend([0; 3]);
     fix_size(&mut list);
@@ -50,7 +50,7 @@ fn longest_add(parent: u32) -> Add {
     below(parent, CONTAINER)
         .with_owner(padded(nt_sid(&[3; 15]), LONGEST_SID))
         .with_group(padded(nt_sid(&[4; 15]), LONGEST_SID))
-        .with_list(bytes_remain())
+        .with_list(longest_list())
 }
 
 /// Writes document 01's example, then refused records until so many bytes are
@@ -60,12 +60,12 @@ pub fn write(out: &mut impl Write, least: u64) -> io::Result<()> {
     out.write_all(&example)?;
     let refused = [
         Change::Add(longest_add(0)),
-        set_list(0, bytes_remain()),
+        set_list(0, longest_list()),
         set_list(1, vec![0xFF; LONGEST_LIST]),
-        set_list(9, bytes_remain()),
+        set_list(9, longest_list()),
         Change::Add(longest_add(9)),
         set_list(0xFF, vec![0; LONGEST_LIST]),
-        Change::Add(below(0, LEAF).with_list(bytes_remain())),
+        Change::Add(below(0, LEAF).with_list(longest_list())),
     ];
     let refused = refused.map(|change| record(&Call::Change(change)));
     let mut written = example.len() as u64;

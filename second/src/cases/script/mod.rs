@@ -7,6 +7,7 @@ mod heads;
 pub mod long;
 pub mod make;
 mod refusals;
+mod spare;
 mod steps;
 mod trees;
 mod worked;
@@ -30,7 +31,12 @@ pub fn all() -> Vec<Case> {
     scripts.extend(trees::scripts());
     scripts.extend(long::scripts());
     scripts.extend(fresh::scripts(&mut random));
-    let others = [fitting(scripts), worked::lengths_of_out()].concat();
+    let others = [
+        fitting(scripts),
+        worked::lengths_of_out(),
+        fitting(spare::scripts(&mut random)),
+    ]
+    .concat();
     joined(Vec::new(), others)
 }
 
@@ -82,6 +88,8 @@ mod tests {
             ("play 0  bad at: kind or mark above 1", 60),
             ("play 0  bad at: unknown record", 30),
             ("play 8  out too short", 40),
+            ("record add 0  spare bytes", 50),
+            ("record set list 0  spare bytes", 80),
         ] {
             often(label, least);
         }
@@ -90,9 +98,10 @@ mod tests {
     #[test]
     fn the_file_stays_small_and_the_same() {
         let cases = all();
-        assert!((1_000..=1_500).contains(&cases.len()), "{}", cases.len());
+        // Some 140 have lists with spare bytes.
+        assert!((1_000..=1_700).contains(&cases.len()), "{}", cases.len());
         let file = encode_all(&cases);
-        assert!(file.len() <= 1_200_000, "{}", file.len());
+        assert!(file.len() <= 1_300_000, "{}", file.len());
         assert_eq!(file, encode_all(&all()));
     }
 

@@ -10,7 +10,12 @@ const STORED: usize = 300;
 
 pub fn sequences(random: &mut Random) -> Vec<Vec<Call>> {
     let faults = Faults::draw(random);
-    (0..STORED).map(|_| one(random, &faults)).collect()
+    (0..STORED)
+        .map(|_| {
+            let palette = Palette::draw(random);
+            one(random, &palette, &faults)
+        })
+        .collect()
 }
 
 pub struct Faults {
@@ -47,8 +52,7 @@ impl Faults {
 /// What a sequence has room for at its end.
 const CLOSING: usize = SMALL + 4;
 
-fn one(random: &mut Random, faults: &Faults) -> Vec<Call> {
-    let palette = Palette::draw(random);
+pub fn one(random: &mut Random, palette: &Palette, faults: &Faults) -> Vec<Call> {
     let most = 1 + random.below(2).max(random.below(SMALL));
     let steps = *random.pick(&[0, 1, 2, 3, 8, 16, 16, 64]);
     let start = palette.start(random, most as u32, steps);

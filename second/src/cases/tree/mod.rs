@@ -12,6 +12,7 @@ mod refusals;
 mod sequence;
 pub(super) mod shapes;
 mod sizes;
+mod spare;
 mod starts;
 mod steps;
 pub(super) mod worked;
@@ -39,6 +40,7 @@ pub fn sequences() -> Vec<Vec<Call>> {
     all.extend(shapes::sequences());
     all.extend(read_backs::sequences());
     all.extend(fresh::sequences(&mut random));
+    all.extend(spare::sequences(&mut random));
     all
 }
 
@@ -82,6 +84,8 @@ mod tests {
         for call in ["add", "set list", "set mark", "set owner"] {
             often(&format!("tree {call} 8  computed list too long"), 15);
         }
+        // No computed list has spare bytes.
+        assert_eq!(tally.count("tree list 0  spare bytes"), 0);
         for (label, least) in [
             ("tree start 0", 400),
             ("tree start 12  limits", 15),
@@ -102,6 +106,10 @@ mod tests {
             ("tree undo 11  nothing kept", 40),
             ("tree counts 0", 300),
             ("tree room", 40),
+            ("tree start 0  spare bytes", 10),
+            ("tree add 0  spare bytes", 35),
+            ("tree set list 0  spare bytes", 35),
+            ("tree own 0  spare bytes", 60),
         ] {
             often(label, least);
         }
@@ -110,10 +118,10 @@ mod tests {
     #[test]
     fn the_file_stays_small_and_the_same() {
         let sequences = sequences();
-        assert!((500..=560).contains(&sequences.len()));
+        assert!((500..=620).contains(&sequences.len()));
         assert!(sequences.iter().all(|calls| calls.len() <= 60));
         let cases = all();
-        assert!((15_000..=22_000).contains(&cases.len()));
+        assert!((15_000..=24_000).contains(&cases.len()));
         let file = encode_all(&cases);
         assert!(file.len() <= 3_000_000);
         assert_eq!(file, encode_all(&all()));

@@ -4,7 +4,8 @@
 
 use super::make::{entries_of, list_of_length, start};
 use crate::cases::build::{
-    EntryPlan, creator_sid, good_list, list_of_plans, nt_sid, of_creator_authority,
+    EntryPlan, creator_sid, good_list, hiding_some, list_of_plans, nt_sid, of_creator_authority,
+    random_spare, with_spare,
 };
 use crate::cases::inherit::fresh::{mapping, not_looked_at, ordinary_sid, related_guids};
 use crate::list::{Guid, HEADER_LENGTH};
@@ -19,6 +20,8 @@ pub struct Palette {
     with_objects: bool,
     /// Longer entries, so that lists soon pass 1,024 bytes.
     heavy: bool,
+    /// Every other list has spare bytes.
+    roomy: bool,
 }
 
 impl Palette {
@@ -40,6 +43,14 @@ impl Palette {
             most_entries: if heavy { 7 } else { 3 },
             with_objects: random.chance(1, 3),
             heavy,
+            roomy: false,
+        }
+    }
+
+    pub fn with_spare_bytes(self) -> Palette {
+        Palette {
+            roomy: true,
+            ..self
         }
     }
 
@@ -74,8 +85,17 @@ impl Palette {
         *random.pick(&self.guids)
     }
 
-    /// A good list, now and then a long one.
+    /// A good list, with spare bytes or without.
     pub fn list(&self, random: &mut Random) -> Vec<u8> {
+        let list = self.filled_list(random);
+        if self.roomy && random.chance(1, 2) {
+            return roomy(random, &list);
+        }
+        list
+    }
+
+    /// Now and then a long one.
+    fn filled_list(&self, random: &mut Random) -> Vec<u8> {
         if self.heavy && random.chance(1, 4) {
             return self.long_list(random);
         }
@@ -190,6 +210,19 @@ impl Palette {
             },
         }
     }
+}
+
+/// Hidden entries, a few bytes, or up to as many as a tree takes; rarely one
+/// more.
+fn roomy(random: &mut Random, list: &[u8]) -> Vec<u8> {
+    let left = LONGEST_LIST.saturating_sub(list.len());
+    let length = match random.below(16) {
+        0..4 => return hiding_some(random, list),
+        4 => left + random.below(2),
+        5 => random.below(left + 1),
+        _ => 1 + random.below(40),
+    };
+    with_spare(list, &random_spare(random, length))
 }
 
 fn yes_or_no(random: &mut Random, yes: bool) -> u32 {

@@ -31,7 +31,7 @@ read-source-requires : tie.Need-read-source-requires
 read-source-requires c κs =
     let k = c .before .before .before in
     let s = now (k .before .before .before .args .list) in
-    let d = told access s _ _ (sym (checked (k .check .result) s (k .check .ensures)) ∙ c .before .count .given .1) in
+    let d = told access s _ _ _ (sym (checked (k .check .result) s (k .check .ensures)) ∙ c .before .count .given .1) in
     omega (arith, d .listed .head .long)
 
 returns-2 : tie.Need-returns-2

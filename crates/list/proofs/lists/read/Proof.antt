@@ -14,7 +14,7 @@ use Rattle.list.proofs.lists.read.Tie as tie
 
 -- what `check` found
 done-here : (c : tie.After-length)
-    → checkOf access (now (c .before .before .before .before .before .args .list)) ≡ Done (c .length .given .0 .0) (c .length .given .0 .1 .0)
+    → checkOf access (now (c .before .before .before .before .before .args .list)) ≡ Done (c .length .given .0 .0) (c .length .given .0 .1 .0) (c .length .given .0 .1 .1 .0)
 done-here c = sym (checked _ _ (c .before .before .check .ensures)) ∙ c .length .given .1
 
 bad-here : (c : tie.After-number)
@@ -35,11 +35,11 @@ cast-if1 c = search needs
 
 returns : tie.Need-returns
 returns c =
-    let h = read-short access _ _ _ _ (done-here (c .before .before)) (c .if1 .taken) in
+    let h = read-short access _ _ _ _ _ (done-here (c .before .before)) (c .if1 .taken) in
     (ap readingValues (h .answer), h .index)
 
 fill-requires : tie.Need-fill-requires
-fill-requires c κs = (told access _ _ _ (done-here (c .before .before .before)) .listed, c .before .if1 .left)
+fill-requires c κs = (told access _ _ _ _ (done-here (c .before .before .before)) .listed, c .before .if1 .left)
 
 returns-2 : tie.Need-returns-2
 returns-2 c =
@@ -51,7 +51,7 @@ same-length c = search needs
 
 returns-3 : tie.Need-returns-3
 returns-3 c =
-    let h = read-done access _ _ _ _ (done-here (c .before .before .before .before .before .before)) (c .before .before .before .before .if1 .left) in
+    let h = read-done access _ _ _ _ _ (done-here (c .before .before .before .before .before .before)) (c .before .before .before .before .if1 .left) in
     (ap readingValues (h .answer), c .before .before .fill .ensures ∙ h .index)
 
 pub read-spec : {M : Type 1} → statement M

@@ -7,7 +7,6 @@ use Prim.Native.Nat.{ℕ, _-_, _≤_}
 use denote.Ref.{now}
 use lib.ListN.{length, drop, length-drop}
 use lib.Seq.{drop-drop}
-use borrow.Author.Tests.{eq-eqb, ne-eqb}
 use Rattle.list.specs.Entry.{access, sizeOf, entryOf}
 use Rattle.list.specs.List.{walkOf, finish}
 use Rattle.list.specs.declared.entries.Entry.{Entry}
@@ -88,25 +87,18 @@ loop-again c =
           ∙ simp (z, drop-drop),
     )
 
+cast-t12 : tie.Need-cast-t12 Inv-loop μ-loop
+cast-t12 c = search needs
+
 cast-t13 : tie.Need-cast-t13 Inv-loop μ-loop
 cast-t13 c = search needs
 
 returns-2 : tie.Need-returns-2 Inv-loop μ-loop
 unfolding finish
 returns-2 c =
-    let l = c .before .before .loop in
-    let a = c .before .before .before .before .args in
-    sym (l .inv .1 ∙ walk-end access (a .rev) (l .left) (l .at) (drop (l .at) (now (a .list))) _ (omega arith) ∙ rw (ne-eqb _ _ (c .if1 .taken)))
-
-cast-t14 : tie.Need-cast-t14 Inv-loop μ-loop
-cast-t14 c = search needs
-
-returns-3 : tie.Need-returns-3 Inv-loop μ-loop
-unfolding finish
-returns-3 c =
-    let l = c .before .before .loop in
-    let a = c .before .before .before .before .args in
-    sym (l .inv .1 ∙ walk-end access (a .rev) (l .left) (l .at) (drop (l .at) (now (a .list))) _ (omega arith) ∙ rw (eq-eqb _ _ (c .if1 .left)))
+    let l = c .before .loop in
+    let a = c .before .before .before .args in
+    sym (l .inv .1 ∙ walk-end access (a .rev) (l .left) (l .at) (drop (l .at) (now (a .list))) _ (omega arith))
 
 pub walk-spec : {M : Type 1} → statement M
 walk-spec =
@@ -124,7 +116,6 @@ walk-spec =
     sub-left
     loop-less
     loop-again
+    cast-t12
     cast-t13
-    returns-2
-    cast-t14
-    returns-3)
+    returns-2)
