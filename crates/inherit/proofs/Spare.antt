@@ -18,7 +18,7 @@ use Rattle.inherit.specs.Copies.{anyHeritable, ownEntries}
 use Rattle.inherit.specs.Last.{lastStep}
 use Rattle.inherit.specs.Branch.{Result, holds, withCreator, fromDefault, branch, resultOf}
 use Rattle.inherit.specs.Compute.{onReading, readable, computeOf, bytesFor, written, outOf}
-use Rattle.inherit.specs.Spare.{bareIf, withLists, bareAsked, Each, Lists}
+use Rattle.inherit.specs.Spare.{bareIf, withLists, bareAsked, NoSpare, Each, Lists}
 use Rattle.inherit.proofs.Theorems.{computes, present-fits}
 
 -- ---- one list
@@ -125,9 +125,10 @@ spare-unseen a b =
     }
 
 -- a computed list has none: its entries end at its length
-pub computed-end : (a : Asked) (room : ℕ) → computeOf a room .present ≡ 1
-    → let s = bytesFor (resultOf access a) in checkOf access s ≡ Done (length s) (computeOf a room .count) (length s)
-computed-end a room h = rw (sym (present-fits a room h .0)) (computes a room h .done)
+pub computed-end : (a : Asked) (room : ℕ) → computeOf a room .present ≡ 1 → NoSpare (some (bytesFor (resultOf access a)))
+computed-end a room h =
+    let c = computes a room h in
+    c .done ∙ ap₂ (λ (l n : ℕ). Done l n l) (present-fits a room h .0) (c .listed .count)
 
 -- by computation: an empty list with a spare byte
 pub bare-worked : (bareIf (some (2 ∷ 0 ∷ 9 ∷ 0 ∷ 0 ∷ 0 ∷ 0 ∷ 0 ∷ 7 ∷ [])) ≡ some (2 ∷ 0 ∷ 8 ∷ 0 ∷ 0 ∷ 0 ∷ 0 ∷ 0 ∷ [])) × (bareIf none ≡ none)

@@ -1,8 +1,12 @@
 -- What is asked, without spare bytes (RULES 1.4) in any of the lists.
 use Prim.Native.Nat.{ℕ}
+use mathlib.Core.Path.{_≡_}
 use mathlib.Core.List.{List}
 use mathlib.Core.Option.{none, some}
+use lib.ListN.{length}
 use Rattle.list.specs.Entry.{access}
+use Rattle.list.specs.List.{countOf, checkOf}
+use Rattle.list.specs.declared.lists.Reading.the-variants.{Done}
 use Rattle.list.specs.Spare.{bare}
 use Rattle.inherit.specs.Asked.{Asked, MaybeList}
 
@@ -30,6 +34,11 @@ withLists parent creator default a =
 
 abbrev pub bareAsked : Asked → Asked
 bareAsked a = withLists (bareIf (a .parent)) (bareIf (a .creator)) (bareIf (a .default)) a
+
+-- a list that is present has no spare bytes: its entries end at its length
+abbrev pub NoSpare : MaybeList → Type 0
+NoSpare none = Unit
+NoSpare (some s) = checkOf access s ≡ Done (length s) (countOf s) (length s)
 
 -- a list that is present has P
 abbrev pub Each : (List ℕ → Type 0) → MaybeList → Type 0

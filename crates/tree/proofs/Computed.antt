@@ -1,5 +1,5 @@
 -- Computed lists: each is short, reads as done and so is held by a slot; and on good arguments none is refused but for its length.
-use mathlib.Core.Path.{_≡_, refl, sym, ap, _∙_}
+use mathlib.Core.Path.{_≡_, refl, sym, ap, subst, _∙_}
 use mathlib.Core.Bool.{Bool, true, false, cond}
 use mathlib.Core.List.{List}
 use mathlib.Core.Option.{none, some}
@@ -22,6 +22,8 @@ use Rattle.inherit.specs.Inner.Source.{sourceOf}
 use Rattle.inherit.specs.Branch.{Result, absent, holds, resultOf}
 use Rattle.inherit.specs.Compute.{ruleOk, sizeFor, fits, withRoom, computeOf, bytesFor}
 use Rattle.inherit.proofs.Theorems.{Passed, passed-room, present-fits, Computes, computes, listed-source, absent-source}
+use Rattle.inherit.specs.Spare.{NoSpare}
+use Rattle.inherit.proofs.Spare.{computed-end}
 use Rattle.tree.specs.Model.{shortIf}
 use Rattle.tree.specs.Held.{held, slotFor, slotOk, isDone, typeOf, ownSlot, ownList, blockOk}
 use Rattle.tree.specs.Room.{ruleOf, defaultOf}
@@ -47,21 +49,26 @@ module _ (e : List ℕ) (p : MaybeList) (b : List ℕ) where
       let c = computes (askedIn e p b) 1024 h in
       (le-leb (length bytes) 1024 (omega arith), ap isDone (c .done))
 
-  good-of : (o : MaybeList) (z y : Bool) → eqb (answer .number) 0 ≡ z → eqb (answer .present) 1 ≡ y → cond z (some (lent y bytes)) none ≡ some o
-      → (shortIf o ≡ true) × (reads o ≡ true)
-  unfolding shortIf reads
-  good-of o true true q g h =
-      let x : o ≡ some bytes = cc in
-      rw x (bytes-good (eqb-true (answer .present) 1 g))
-  good-of o true false q g h =
-      let x : o ≡ none = cc in
-      rw x (refl, refl)
-  good-of o false y q g h = let z : _≡_ {A = ℕ} 0 1 = cc in absurd (omega arith)
+  -- what holds of an absent list and of one that was computed
+  of-computed : (P : MaybeList → Type 0) → P none → (answer .present ≡ 1 → P (some bytes)) → (o : MaybeList) (z y : Bool)
+      → eqb (answer .number) 0 ≡ z → eqb (answer .present) 1 ≡ y → cond z (some (lent y bytes)) none ≡ some o → P o
+  of-computed P a k o true true q g h =
+      let x : some bytes ≡ o = cc in
+      subst P x (k (eqb-true (answer .present) 1 g))
+  of-computed P a k o true false q g h =
+      let x : none ≡ o = cc in
+      subst P x a
+  of-computed P a k o false y q g h = let z : _≡_ {A = ℕ} 0 1 = cc in absurd (omega arith)
 
   module _ (o : MaybeList) (h : computed e p b ≡ some o) where
     computed-good : (shortIf o ≡ true) × (reads o ≡ true)
+    unfolding computed shortIf reads
+    computed-good = of-computed (λ x. (shortIf x ≡ true) × (reads x ≡ true)) (refl, refl) bytes-good o _ _ refl refl h
+
+    -- its entries end at its length
+    pub computed-exact : NoSpare o
     unfolding computed
-    computed-good = good-of o _ _ refl refl h
+    computed-exact = of-computed NoSpare tt (computed-end (askedIn e p b) 1024) o _ _ refl refl h
 
     pub computed-short : shortIf o ≡ true
     computed-short = computed-good .0

@@ -13,6 +13,7 @@ use Rattle.list.specs.Bytes.{front}
 use Rattle.list.specs.Answer.{Values, done, refused}
 use Rattle.list.proofs.Tests.{both-true, off}
 use Rattle.inherit.specs.Asked.{MaybeList}
+use Rattle.inherit.specs.Spare.{NoSpare}
 use Rattle.inherit.specs.Compute.{ruleOk}
 use Rattle.tree.specs.Model.{Settings, shortIf, limitsOk}
 use Rattle.tree.specs.declared.Answer.{Answer}
@@ -33,8 +34,8 @@ use Rattle.tree.proofs.Keeps.{Formed, formed-facts}
 use Rattle.tree.proofs.Answered.{start-facts}
 use Rattle.tree.proofs.Plays.{Passes, on, stop, then, need-first, reads-first, call-ends}
 use Rattle.tree.proofs.Reaches.{settingsBytes, Reached, Begun, begun, start-stays, reaches, keeps}
-use Rattle.tree.proofs.Likeness.{Good, objectsFrom, replay-like}
-use Rattle.tree.proofs.Modelled.{said, readable-as, test-as, short-is, objects-shown, shown-length, objects-length, lists-like, change-as}
+use Rattle.tree.proofs.Likeness.{Good, objectsFrom, replay-like, lists-exact}
+use Rattle.tree.proofs.Modelled.{said, settings-facts, readable-as, test-as, short-is, objects-shown, shown-length, objects-length, lists-like, change-as}
 use Rattle.tree.proofs.Reading.{ReadAs, part-as, counts-as}
 use Rattle.tree.proofs.Numbers.{accepted-number, change-numbered, undo-numbered, start-numbered}
 
@@ -65,8 +66,9 @@ pub record Shows (long : ℕ) (r : List ℕ) (s : Model.Tree) : Type 0 where
   pub well : formed r ≡ true
   pub settings-are : settingsIn r ≡ s .settings
   pub objects-are : objectsIn r ≡ Model.objectsOf s
-  -- each computed list in it is the one that following parents up to the root gives; as many steps are kept
+  -- each computed list in it is the one that following parents up to the root gives, and has no spare bytes; as many steps are kept
   pub lists-are : (i : ℕ) → i < objects r → Model.listOf (s .settings) (Model.objectsOf s) i ≡ some (held (slot i r))
+  pub exact : (i : ℕ) → i < objects r → NoSpare (held (slot i r))
   pub kept-are : keptSteps r ≡ s .kept
   -- each call answers the model's number and values; one that is refused leaves every byte of the room; what is read back is the model's
   pub answers : (q : Request) → answerTo q r ≡ Model.answer s (meant long q)
@@ -142,6 +144,14 @@ module _ (b : Settings) (r : List ℕ) (h : accepted (startTo b r .answer) ≡ t
       (omega (arith, k, shown-length (room qs)))
       ∙ ap some (getD-tab (objects (room qs)) (λ j. held (slot j (room qs))) i none k))
 
+  exact-as : (qs : List (Step ChangeGiven)) (i : ℕ) → i < objects (room qs) → NoSpare (held (slot i (room qs)))
+  unfolding shown
+  exact-as qs i k =
+      subst NoSpare (getD-tab (objects (room qs)) (λ j. held (slot j (room qs))) i none k)
+      (lists-exact (b .object-limit) (b .step-limit) (settings (room qs)) (settings-facts (settings (room qs)) (F qs .settings-ok) .0)
+      (settings-facts (settings (room qs)) (F qs .settings-ok) .1) (shown (room qs) .own) (shown (room qs) .lists) (work-as qs) i
+      (omega (arith, k, shown-length (room qs))))
+
   -- each call's answer
   change-said : (qs : List (Step ChangeGiven)) (c : ChangeGiven) → said (changeWith c (room qs)) ≡ Model.changeAnswer (settingsFrom b) (Model.objectsOf (tree qs)) (changeMeant c)
   change-said qs c = rw (← settings-as qs, ← objects-as qs) (change-as (room qs) (F qs) c)
@@ -195,6 +205,7 @@ module _ (b : Settings) (r : List ℕ) (h : accepted (startTo b r .answer) ≡ t
         settings-are = settings-as qs;
         objects-are = objects-as qs;
         lists-are = lists-as qs;
+        exact = exact-as qs;
         kept-are = H qs .steps-left;
         answers = all-said qs;
         refused-stays = all-stays qs;

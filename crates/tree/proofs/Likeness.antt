@@ -16,6 +16,7 @@ use Rattle.list.proofs.Places.{split}
 use Rattle.list.proofs.Tests.{both-true}
 use Rattle.list.specs.Answer.{Values, done, refused}
 use Rattle.inherit.specs.Asked.{Asked, MaybeList}
+use Rattle.inherit.specs.Spare.{NoSpare}
 use Rattle.inherit.specs.Branch.{Result, absent, holds, resultOf}
 use Rattle.inherit.specs.Compute.{ordinary, ruleOk, sizeFor, fits, revFor, withRoom, bytesFor}
 use Rattle.inherit.proofs.Theorems.{passed-room}
@@ -25,7 +26,7 @@ use Rattle.tree.specs.Held.{parentIn, blockFor, blockOk, parentByteIn, t
 use Rattle.tree.specs.Room.{ruleOf, defaultOf}
 use Rattle.tree.specs.Formed.{placedIn}
 use Rattle.tree.specs.Work.{askedIn, taken, computed}
-use Rattle.tree.proofs.Computed.{all-passed, computed-reads}
+use Rattle.tree.proofs.Computed.{all-passed, computed-reads, computed-exact}
 use Rattle.tree.specs.Calls.{Edit, list, mark, owners, editAt, editBytes, nobody, objectFor, ChangeGiven, add, alter}
 use Rattle.tree.specs.General.{bind, isSome, every}
 use Rattle.tree.proofs.History.{replay}
@@ -260,6 +261,18 @@ module _ (n s : ℕ) (e : List ℕ) (hr : ruleOk (ruleOf e) ≡ true) (hd : read
   from-reads d (suc more) i o h =
       let b = bind-is _ _ o h in
       computed-reads e (b .0) (getD d i []) o (b .1 .1)
+
+  -- and its entries end at its length
+  from-exact : (d : Blocks) (more i : ℕ) (o : MaybeList) → fromRoot e d more i ≡ some o → NoSpare o
+  unfolding fromRoot
+  from-exact d zero i o h = let z : _≡_ {A = ℕ} 0 1 = cc in absurd (omega arith)
+  from-exact d (suc more) i o h =
+      let b = bind-is _ _ o h in
+      computed-exact e (b .0) (getD d i []) o (b .1 .1)
+
+  pub lists-exact : (d : Blocks) (ls : List MaybeList) → work e d ≡ some ls → (i : ℕ) → i < length d → NoSpare (getD ls i none)
+  unfolding work
+  lists-exact d ls h i k = from-exact d (length d) i _ (gather-at none (length d) (fromRoot e d (length d)) ls h i k)
 
   bind-like : {A B : Type 0} (x : Option A) (f g : A → Option B) → ((a : A) → x ≡ some a → f a ≡ g a) → bind x f ≡ bind x g
   unfolding bind

@@ -138,7 +138,7 @@ good-shown r F =
 
 -- ---- the end of a change, in a well-formed room
 
-settings-facts : (e : List ℕ) → settingsOk e ≡ true → (ruleOk (ruleOf e) ≡ true) × (reads (defaultOf e) ≡ true)
+pub settings-facts : (e : List ℕ) → settingsOk e ≡ true → (ruleOk (ruleOf e) ≡ true) × (reads (defaultOf e) ≡ true)
 unfolding settingsOk
 settings-facts e h =
     let b = both-true (ruleOk (ruleOf e)) (slotOk (defaultSlot e)) h in
