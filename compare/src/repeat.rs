@@ -9,6 +9,10 @@ mod tree;
 
 use std::time::{Duration, Instant};
 
+/// Spare bytes of a list that is read, and of a parent's.
+const SPARE_READ: usize = 60_000;
+const SPARE_COMPUTED: usize = 2_000;
+
 /// Who is called.
 #[derive(Clone, Copy)]
 pub enum Side {
@@ -67,7 +71,8 @@ fn measured_calls(repeated: &mut dyn Repeated, calls: usize) {
     }
 }
 
-/// On `read_N`, `compute_N`, `set_list_N`, `undo_N`, `full_tree` and `play_N`.
+/// On `read_N`, `read_spare_N`, `compute_N`, `compute_spare_N`, `set_list_N`,
+/// `undo_N`, `full_tree` and `play_N`.
 fn repeated(side: Side, what: &str) -> Option<Box<dyn Repeated>> {
     if what == "full_tree" {
         return Some(Box::new(tree::mark_on_the_full_tree(side)));
@@ -75,8 +80,14 @@ fn repeated(side: Side, what: &str) -> Option<Box<dyn Repeated>> {
     let (name, number) = what.rsplit_once('_')?;
     let number = number.parse().ok()?;
     Some(match name {
-        "read" => Box::new(reading::Reading::of_entries(side, number)),
-        "compute" => Box::new(computing::Computing::of_entries(side, number)),
+        "read" => Box::new(reading::Reading::of_entries(side, number, 0)),
+        "read_spare" => Box::new(reading::Reading::of_entries(side, number, SPARE_READ)),
+        "compute" => Box::new(computing::Computing::of_entries(side, number, 0)),
+        "compute_spare" => Box::new(computing::Computing::of_entries(
+            side,
+            number,
+            SPARE_COMPUTED,
+        )),
         "set_list" => Box::new(tree::set_list(side, number)),
         "undo" => Box::new(tree::undo(side, number)),
         "play" => Box::new(playing::Playing::of_records(side, number)),

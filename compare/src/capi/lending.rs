@@ -79,6 +79,10 @@ impl Lending {
         }
     }
 
+    pub fn is_apart(&self) -> bool {
+        self.together.is_none()
+    }
+
     pub fn is_unchanged(&self) -> bool {
         let together = self.together.as_ref();
         together.is_none_or(|together| together.bytes == together.before)
@@ -91,6 +95,17 @@ impl Lending {
                 shared(together.range(one), together.range(other))
             }
             _ => Shared::Nothing,
+        }
+    }
+
+    /// Whether one part lies whole in the last bytes of another, so many.
+    pub fn lies_in_the_end(&self, inner: &[u8], outer: &[u8], last: usize) -> bool {
+        match &self.together {
+            Some(together) if !inner.is_empty() && last > 0 => {
+                let (inner, outer) = (together.range(inner), together.range(outer));
+                outer.end - last <= inner.start && inner.end <= outer.end
+            }
+            _ => false,
         }
     }
 
@@ -195,6 +210,17 @@ mod tests {
         let inside = lending.pointer(&long).wrapping_add(1);
         assert_eq!(lending.pointer(&short), inside);
         assert_eq!(lending.shared(&short, &long), Shared::Part);
+    }
+
+    #[test]
+    fn a_part_in_the_last_bytes_of_another() {
+        let (outer, inner) = (vec![1, 2, 3, 4, 5], vec![3, 4]);
+        let lending = lent(&[&outer, &inner], [9; 4]);
+        for (last, lies) in [(0, false), (2, false), (3, true), (5, true)] {
+            assert_eq!(lending.lies_in_the_end(&inner, &outer, last), lies);
+        }
+        assert!(!lending.lies_in_the_end(&outer, &inner, 2));
+        assert!(!Lending::apart(WhenEmpty::Null).lies_in_the_end(&inner, &outer, 3));
     }
 
     #[test]

@@ -5,6 +5,7 @@ use super::share::share;
 use crate::mutate::{mutate_identity, mutate_list};
 use second::ace::LONGEST_LIST;
 use second::cases::build::{EntryPlan, creator_sid, good_list, list_of_plans, nt_sid, random_list};
+use second::cases::inherit::spare::roomy;
 use second::cases::inherit::{fresh, result_length};
 use second::computing::{Request, setting};
 use second::random::Random;
@@ -30,7 +31,12 @@ pub fn case(random: &mut Random) -> Case {
         } else {
             FEW_ENTRIES
         };
-        fresh::request(random, most)
+        let request = fresh::request(random, most);
+        if random.chance(1, 4) {
+            roomy(random, request, spare_length)
+        } else {
+            request
+        }
     };
     if random.chance(1, 3) {
         for _ in 0..1 + random.below(3) {
@@ -46,6 +52,23 @@ pub fn case(random: &mut Random) -> Case {
         request,
         room,
         together,
+    }
+}
+
+fn spare_length(random: &mut Random, _left: usize) -> usize {
+    match random.below(400) {
+        0 => 60_000,
+        1 => random.below(60_000),
+        2..20 => random.below(2_000),
+        _ => 1 + random.below(40),
+    }
+}
+
+/// Up to the very longest list, in most cases.
+fn filling_length(random: &mut Random, left: usize) -> usize {
+    match random.below(4) {
+        0 => random.below(left + 1),
+        _ => left.saturating_sub(random.below(3)),
     }
 }
 
@@ -112,8 +135,17 @@ fn room(random: &mut Random, request: &Request) -> usize {
     }
 }
 
-/// Results near 65,532 bytes, or far over it.
+/// Results near 65,532 bytes, or far over it; every third has a list that
+/// spare bytes fill up to 65,535 bytes or nearly so.
 fn large(random: &mut Random) -> Request {
+    let request = filled_large(random);
+    if random.chance(1, 3) {
+        return roomy(random, request, filling_length);
+    }
+    request
+}
+
+fn filled_large(random: &mut Random) -> Request {
     let request = fresh::request(random, FEW_ENTRIES);
     match random.below(6) {
         0 => {

@@ -4,6 +4,7 @@ use crate::capi::WhenEmpty;
 use crate::capi::lending::{Lending, Shared};
 use crate::report::Report;
 use second::computing::{Request, setting};
+use second::list::spare_bytes;
 use second::random::Random;
 
 pub fn lending(random: &mut Random, lent: &Request, together: bool) -> Lending {
@@ -24,6 +25,9 @@ pub fn lending(random: &mut Random, lent: &Request, together: bool) -> Lending {
 
 /// By the lists that are looked at alone.
 pub fn count_shared(report: &mut Report, lending: &Lending, lent: &Request) {
+    if lending.is_apart() {
+        return;
+    }
     let lists = looked_at(lent);
     let of_lists = pairs(&lists).map(|(one, other)| lending.shared(one, other));
     let of_lists: Vec<Shared> = of_lists.collect();
@@ -35,11 +39,19 @@ pub fn count_shared(report: &mut Report, lending: &Lending, lent: &Request) {
     };
     let has_mapping =
         |list: &&[u8]| lending.shared_with_mapping(list, lent.mapping) != Shared::Nothing;
+    let in_spare_bytes =
+        |inner: &[u8], outer: &[u8]| lending.lies_in_the_end(inner, outer, spare_bytes(outer));
+    let either_in_spare_bytes =
+        |(one, other)| in_spare_bytes(one, other) || in_spare_bytes(other, one);
     let of_identities = lending.shared(&lent.owner, &lent.group);
     let found = [
         ("one range for two lists", same == 1),
         ("one range for three lists", same == 3),
         ("a list in a longer one", of_lists.contains(&Shared::Part)),
+        (
+            "a list in another's spare bytes",
+            pairs(&lists).any(either_in_spare_bytes),
+        ),
         (
             "one range for owner and group",
             of_identities == Shared::Whole,

@@ -3,8 +3,12 @@
 mod generate;
 mod lent;
 mod share;
+mod spare;
 
-use crate::capi;
+use std::ops::Range;
+
+use crate::capi::lending::Lending;
+use crate::capi::{self, WhenEmpty};
 use crate::floors;
 use crate::report::Report;
 use generate::Case as Fresh;
@@ -55,6 +59,11 @@ fn compare_one(random: &mut Random, report: &mut Report, fresh: &Fresh) {
     let mut theirs = [0; 8].map(|_: u32| random.word());
     let lending = lent::lending(random, &lent, fresh.together);
     lent::count_shared(report, &lending, &lent);
+    let without = spare::without(request);
+    if without.is_some() {
+        spare::count(report, request, ours[0]);
+    }
+    let again = without.map(|without| Asked::apart(random, &without, &their_room, &inside));
     capi::compute(&lent, &mut their_room[inside], &mut theirs, &lending);
 
     let difference = if theirs != ours {
@@ -63,6 +72,8 @@ fn compare_one(random: &mut Random, report: &mut Report, fresh: &Fresh) {
         Some(room_difference(&their_room, &our_room))
     } else if lent != *request || !lending.is_unchanged() {
         Some("an input was changed".to_string())
+    } else if again.is_some_and(|again| again.answer != theirs || again.room != their_room) {
+        Some("without spare bytes the library tells otherwise".to_string())
     } else {
         None
     };
@@ -72,6 +83,30 @@ fn compare_one(random: &mut Random, report: &mut Report, fresh: &Fresh) {
         report.add_call(list, ours[0]);
     }
     report.add("compute", ours[0], told);
+}
+
+/// What the library makes of a request in a room that begins as given.
+struct Asked {
+    answer: [u32; 8],
+    room: Vec<u8>,
+}
+
+impl Asked {
+    fn apart(
+        random: &mut Random,
+        request: &Request,
+        before: &[u8],
+        inside: &Range<usize>,
+    ) -> Asked {
+        let mut asked = Asked {
+            answer: [0; 8].map(|_: u32| random.word()),
+            room: before.to_vec(),
+        };
+        let lending = Lending::apart(WhenEmpty::draw(random));
+        let room = &mut asked.room[inside.clone()];
+        capi::compute(request, room, &mut asked.answer, &lending);
+        asked
+    }
 }
 
 /// Names the first byte that differs; those of the margin are outside.

@@ -1,16 +1,16 @@
 //! Computations whose parts are the same bytes, so that one range can be lent
 //! for several of them.
 
-use second::cases::build::{EntryPlan, creator_sid, good_list, nt_sid};
+use second::cases::build::{EntryPlan, creator_sid, good_list, nt_sid, with_spare, without_spare};
 use second::computing::{Request, setting};
 use second::identity;
-use second::list::List;
+use second::list::{HEADER_LENGTH, List};
 use second::random::Random;
 
 /// Some of the parts follow from others, whatever these are.
 pub fn share(random: &mut Random, request: &mut Request) {
     for _ in 0..1 + random.below(3) {
-        match random.below(8) {
+        match random.below(9) {
             0 => share_lists(random, request),
             1 => {
                 request.creator = request.parent.clone();
@@ -20,6 +20,7 @@ pub fn share(random: &mut Random, request: &mut Request) {
             3 => put_lists_behind_each_other(random, request),
             4 | 5 => share_identities(random, request),
             6 => take_types(random, request),
+            7 => put_a_list_into_spare_bytes(random, request),
             _ => take_a_mapping(random, request),
         }
     }
@@ -90,6 +91,22 @@ fn put_lists_behind_each_other(random: &mut Random, request: &mut Request) {
     let (short, long) = two_of_three(random);
     let lists = lists(request);
     *lists[long] = [&lists[short][..], &lists[long][..]].concat();
+}
+
+/// One stands among the spare bytes of the other, with the owner behind it at
+/// times.
+fn put_a_list_into_spare_bytes(random: &mut Random, request: &mut Request) {
+    let (inner, outer) = two_of_three(random);
+    let before = random.below(4);
+    let mut spare = random.bytes(before);
+    spare.extend(lists(request)[inner].clone());
+    if random.chance(1, 2) {
+        spare.extend(&request.owner);
+    }
+    let lists = lists(request);
+    if lists[outer].len() >= HEADER_LENGTH {
+        *lists[outer] = with_spare(&without_spare(lists[outer]), &spare);
+    }
 }
 
 /// The same for both, or one that stands in a list.

@@ -1,6 +1,8 @@
 //! Calls that fill a tree to its limits and go on with it there.
 
-use second::cases::build::{EntryPlan, MOST_NUMBERS, creator_sid, good_list, nt_sid, random_sid};
+use second::cases::build::{
+    EntryPlan, MOST_NUMBERS, creator_sid, good_list, nt_sid, random_sid, random_spare, with_spare,
+};
 use second::cases::tree::make::{entries_of, one_entry, remove_list, set_list, set_owner};
 use second::cases::tree::palette::{Palette, object};
 use second::random::Random;
@@ -128,8 +130,18 @@ impl Maker {
         self.of_flags(random, &STAYING, 900)
     }
 
-    /// Of so many bytes at most.
+    /// Of so many bytes at most, but for spare bytes, which every fourth has.
     fn of_flags(&self, random: &mut Random, flags: &[u8], most: usize) -> Vec<u8> {
+        let list = self.filled(random, flags, most);
+        if random.chance(3, 4) {
+            return list;
+        }
+        let left = LONGEST_LIST - list.len();
+        let length = *random.pick(&[1, 2, 20, left - 1, left]);
+        with_spare(&list, &random_spare(random, length))
+    }
+
+    fn filled(&self, random: &mut Random, flags: &[u8], most: usize) -> Vec<u8> {
         let mut bytes = SHORTEST + 4 * random.below((most - SHORTEST) / 4);
         let mut plans = Vec::new();
         while bytes >= LONGEST + SHORTEST {
@@ -215,14 +227,24 @@ impl Maker {
             }
             Change::Add(add) if random.chance(1, 2) => {
                 add.traits |= traits::OWN_LIST;
-                add.list = bad_list(random);
+                add.list = refused_list(random);
             }
             Change::SetList { has_list, list, .. } if random.chance(3, 4) => {
                 *has_list = 1;
-                *list = bad_list(random);
+                *list = refused_list(random);
             }
             _ => spoil(random, &mut change),
         }
         change
     }
+}
+
+/// A bad one, or one that is a spare byte too long.
+fn refused_list(random: &mut Random) -> Vec<u8> {
+    if random.chance(3, 4) {
+        return bad_list(random);
+    }
+    let list = one_entry(0x03, random.word());
+    let missing = LONGEST_LIST - list.len();
+    with_spare(&list, &random_spare(random, missing + 1))
 }

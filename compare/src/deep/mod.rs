@@ -46,7 +46,7 @@ pub fn compare(cases: usize, seed: u64) -> Report {
         let mut random = Random::new(seeds.draw());
         let maker = Maker {
             profile: PROFILES[number % PROFILES.len()],
-            palette: Palette::of_weight(&mut random, true),
+            palette: Palette::of_weight(&mut random, true).with_spare_bytes(),
             loaded_from: LOADED_FROM[number / 2 % LOADED_FROM.len()],
         };
         let rule = if number.is_multiple_of(ONE_IN) { 1 } else { 2 };

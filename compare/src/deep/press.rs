@@ -4,7 +4,7 @@
 
 use super::generate::{COMING_DOWN, SHORTEST};
 use super::large::fits;
-use second::cases::build::{EntryPlan, creator_sid, good_list, nt_sid};
+use second::cases::build::{EntryPlan, creator_sid, good_list, nt_sid, with_spare};
 use second::cases::tree::make::{entries_of, set_list, set_mark, set_owner};
 use second::random::Random;
 use second::room::Found;
@@ -12,6 +12,9 @@ use second::tree::{Change, Object};
 
 /// Of the lists that are tried, in steps of four bytes.
 const LONGEST: usize = 1_000;
+/// Which they may have behind their entries: in what is computed they never
+/// count.
+const MOST_SPARE: usize = 12;
 /// Entries for the owner, each of which becomes longer with it.
 const PLACEHOLDERS: usize = 3;
 
@@ -47,7 +50,8 @@ fn sources(objects: &[Object]) -> Vec<usize> {
 
 fn by_list(random: &mut Random, found: &Found, source: usize) -> Vec<Change> {
     let flags = *random.pick(&COMING_DOWN);
-    let list_of = |bytes| vec![set_list(source as u32, of_bytes(flags, bytes))];
+    let spare = random.below(MOST_SPARE + 1);
+    let list_of = |bytes| vec![set_list(source as u32, of_bytes(flags, bytes, spare))];
     longest_that_fits(found, list_of)
         .map(|longest| [list_of(longest), list_of(longest + 4)].concat())
         .unwrap_or_default()
@@ -81,7 +85,8 @@ fn by_owner(random: &mut Random, found: &Found, source: usize) -> Vec<Change> {
 /// What comes down from above fits as long as a mark keeps it out.
 fn by_mark(random: &mut Random, found: &Found, above: usize, marked: usize) -> Vec<Change> {
     let flags = *random.pick(&COMING_DOWN);
-    let with_mark = |bytes| vec![set_list(above as u32, of_bytes(flags, bytes))];
+    let spare = random.below(MOST_SPARE + 1);
+    let with_mark = |bytes| vec![set_list(above as u32, of_bytes(flags, bytes, spare))];
     let without = |bytes| [with_mark(bytes), vec![set_mark(marked as u32, false)]].concat();
     match longest_that_fits(found, without) {
         Some(longest) if fits(found, &with_mark(longest + 4)) => without(longest + 4),
@@ -89,8 +94,8 @@ fn by_mark(random: &mut Random, found: &Found, above: usize, marked: usize) -> V
     }
 }
 
-fn of_bytes(flags: u8, bytes: usize) -> Vec<u8> {
-    good_list(&entries_of(flags, bytes))
+fn of_bytes(flags: u8, bytes: usize, spare: usize) -> Vec<u8> {
+    with_spare(&good_list(&entries_of(flags, bytes)), &vec![0xEE; spare])
 }
 
 /// By halving: with more bytes no list is shorter. `None` where the shortest

@@ -3,14 +3,16 @@
 use crate::mutate::{TELLING, changed_byte, mutate_identity, mutate_list};
 use second::ace::LONGEST_LIST;
 use second::cases::build::{
-    EntryPlan, MOST_NUMBERS, creator_sid, fix_size, list_of, list_of_plans, of_creator_authority,
-    random_list, random_sid, set_count,
+    EntryPlan, MOST_NUMBERS, creator_sid, fix_size, hiding_some, list_of, list_of_plans,
+    of_creator_authority, random_list, random_sid, random_spare, set_count, with_spare,
 };
 use second::cases::spoil::{one_of_each, spoilt, thorough};
 use second::cases::tree::make::entries_of;
 use second::list::HEADER_LENGTH;
 use second::random::Random;
 
+/// With spare bytes; without, no list is longer than 65,532 bytes.
+const LONGEST_WITH_SPARE: usize = 65_535;
 /// Of entries.
 const SHORTEST: usize = 16;
 const LONGEST: usize = 112;
@@ -39,7 +41,11 @@ fn list(random: &mut Random) -> (Vec<u8>, usize) {
     }
     let count = entry_count(random);
     let revision = *random.pick(&[2, 4, 4]);
-    let good = random_list(random, revision, count);
+    let mut good = random_list(random, revision, count);
+    if random.chance(1, 4) {
+        good = roomy(random, &good);
+    }
+    let count = counted(&good);
     let list = match random.below(20) {
         0..5 => good,
         5..15 => mutated(random, good),
@@ -51,6 +57,37 @@ fn list(random: &mut Random) -> (Vec<u8>, usize) {
         _ => noise(random),
     };
     (list, count)
+}
+
+/// Spare bytes, or entries that a smaller count hides.
+fn roomy(random: &mut Random, list: &[u8]) -> Vec<u8> {
+    if random.chance(1, 4) {
+        return hiding_some(random, list);
+    }
+    let length = match random.below(200) {
+        0 => 60_000,
+        1 => random.below(60_000),
+        2..20 => random.below(2_000),
+        _ => 1 + random.below(40),
+    };
+    with_spare(list, &random_spare(random, length))
+}
+
+/// Up to the very longest, as often as not.
+fn filled_up(random: &mut Random, list: &[u8]) -> Vec<u8> {
+    let left = LONGEST_WITH_SPARE.saturating_sub(list.len());
+    let length = match random.below(4) {
+        0 => left,
+        1 => left.saturating_sub(random.below(3)),
+        2 => random.below(left + 1),
+        _ => return hiding_some(random, list),
+    };
+    with_spare(list, &random_spare(random, length))
+}
+
+/// The count that a list has in its header.
+fn counted(list: &[u8]) -> usize {
+    u16::from_le_bytes([list[4], list[5]]).into()
 }
 
 fn entry_count(random: &mut Random) -> usize {
@@ -135,7 +172,7 @@ fn long_list(random: &mut Random) -> (Vec<u8>, usize) {
 }
 
 /// Thousands of entries that differ in type, word and length, in up to 65,532
-/// bytes. In half of them a late one is spoilt.
+/// bytes, and spare bytes up to 65,535. In half of them a late one is spoilt.
 fn long_and_mixed(random: &mut Random) -> (Vec<u8>, usize) {
     let length = match random.below(8) {
         0 => LONGEST_LIST,
@@ -155,6 +192,10 @@ fn long_and_mixed(random: &mut Random) -> (Vec<u8>, usize) {
         entries[late] = spoilt(&plans[late], &[*random.pick(&ways)]);
     }
     let mut list = list_of(4, &entries);
+    if random.chance(1, 3) {
+        list = filled_up(random, &list);
+    }
+    let count = counted(&list);
     if random.chance(1, 12) {
         let at = random.below(HEADER_LENGTH);
         list[at] = changed_byte(random, list[at]);

@@ -6,6 +6,8 @@ use crate::capi::{self, WhenEmpty};
 use crate::floors;
 use crate::report::Report;
 use generate::Subject;
+use second::cases::build::with_count;
+use second::list::{List, spare_bytes};
 use second::random::Random;
 use second::{hex, identity, reading};
 
@@ -69,6 +71,7 @@ fn compare_read(random: &mut Random, report: &mut Report, list: &[u8], row_lengt
         let list = told(list);
         format!("read row {row_length} list {list}: {what}")
     });
+    count_spare_bytes(report, list, &ours);
     if list.len() > LONG {
         report.add_call("read of a long list", ours[0]);
         report.reach("longest list that was read", ours[3] as usize);
@@ -76,6 +79,31 @@ fn compare_read(random: &mut Random, report: &mut Report, list: &[u8], row_lengt
         report.reach("latest offset of a refusal", ours[2] as usize);
     }
     report.add("read", ours[0], told);
+}
+
+/// By the second program's numbers.
+fn count_spare_bytes(report: &mut Report, list: &[u8], ours: &[u32; 8]) {
+    let &[number, _, _, length, _, count, _, end] = ours;
+    if number == 8 && spare_bytes(list) > 0 {
+        report.add_branch("a row too short with spare bytes");
+    }
+    if number != 0 || end == length {
+        return;
+    }
+    report.reach("most spare bytes", (length - end) as usize);
+    let another = with_count(list, count as usize + 1);
+    let found = [
+        ("read with spare bytes", true),
+        ("spare bytes behind no entry", count == 0),
+        (
+            "spare bytes that are an entry",
+            List::parse(&another).is_ok(),
+        ),
+        ("read of 65,533 bytes or more", length > 65_532),
+    ];
+    for (what, _) in found.into_iter().filter(|&(_, yes)| yes) {
+        report.add_branch(what);
+    }
 }
 
 fn told(list: &[u8]) -> String {

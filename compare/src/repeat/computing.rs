@@ -17,12 +17,12 @@ pub struct Computing {
 }
 
 impl Computing {
-    /// So many has the parent's list.
-    pub fn of_entries(side: Side, entries: usize) -> Computing {
-        let parent = lists::plain(entries);
+    /// So many has the parent's list, and so many spare bytes behind them.
+    pub fn of_entries(side: Side, entries: usize, spare: usize) -> Computing {
+        let parent = lists::plain(entries, spare);
         Computing {
             side,
-            out: vec![0; 2 * parent.len()],
+            out: vec![0; 2 * (parent.len() - spare)],
             request: Request {
                 rule: 2,
                 settings: setting::PARENT | setting::CONTAINER | setting::AUTO_INHERIT,

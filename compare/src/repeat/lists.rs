@@ -1,19 +1,20 @@
 //! Lists that are measured with.
 
-use second::cases::build::{EntryPlan, creator_sid, good_list, nt_sid};
+use second::cases::build::{EntryPlan, creator_sid, good_list, nt_sid, with_spare};
 
 /// Every entry is inherited by containers and other objects, and has 20 bytes.
 const BOTH: u8 = 0x03;
 /// To read, to be mapped.
 const GENERIC_READ: u32 = 0x8000_0000;
 
-/// Allowing and denying in turn, for S-1-5-18.
-pub fn plain(entries: usize) -> Vec<u8> {
+/// Allowing and denying in turn, for S-1-5-18, and so many spare bytes.
+pub fn plain(entries: usize, spare: usize) -> Vec<u8> {
     let plans = (0..entries).map(|number| EntryPlan {
         mask: 1,
         ..EntryPlan::plain((number % 2) as u8, BOTH, nt_sid(&[18]))
     });
-    good_list(&plans.collect::<Vec<_>>())
+    let list = good_list(&plans.collect::<Vec<_>>());
+    with_spare(&list, &vec![0xEE; spare])
 }
 
 /// One in four is for the creator owner, and generic; the others are for

@@ -14,10 +14,11 @@ pub struct Reading {
 }
 
 impl Reading {
-    pub fn of_entries(side: Side, entries: usize) -> Reading {
+    /// With so many spare bytes behind them.
+    pub fn of_entries(side: Side, entries: usize, spare: usize) -> Reading {
         Reading {
             side,
-            list: lists::plain(entries),
+            list: lists::plain(entries, spare),
             row: vec![0; entries],
             answer: [0; 8],
         }

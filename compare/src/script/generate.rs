@@ -2,8 +2,8 @@
 //! changed in some bytes, of noise, or with a bad head.
 
 use crate::mutate::{bad_list, changed_byte};
-use crate::tree::spoil;
-use second::cases::build::fix_size;
+use crate::tree::{roomy_at_times, spoil};
+use second::cases::build::{random_spare, with_spare};
 use second::cases::script::fresh;
 use second::cases::tree::make::{list_of_length, set_list};
 use second::cases::tree::palette::{Palette, object};
@@ -39,6 +39,7 @@ pub fn script(random: &mut Random) -> Vec<u8> {
 fn good(random: &mut Random) -> Vec<u8> {
     let heavy = random.chance(1, 4);
     let palette = Palette::of_weight(random, heavy);
+    let palette = roomy_at_times(random, palette);
     let wanted = 10 + random.below(51);
     let seldom = *random.pick(&[6, 12, 1_000]);
     fresh::records(random, &palette, wanted, |random, change| {
@@ -52,6 +53,7 @@ fn good(random: &mut Random) -> Vec<u8> {
 /// Many records, of which every third or so is refused, by every number.
 pub fn full_of_refusals(random: &mut Random) -> Vec<u8> {
     let palette = Palette::of_weight(random, true);
+    let palette = roomy_at_times(random, palette);
     let wanted = 60 + random.below(61);
     fresh::records(random, &palette, wanted, |random, change| match change {
         Change::Add(Add { list, .. }) | Change::SetList { list, .. }
@@ -98,16 +100,21 @@ pub fn long(random: &mut Random) -> Vec<u8> {
     script
 }
 
-/// It is refused: its list is no list, or is too long for a tree.
+/// It is refused: its list is too long for a tree, by its entries or by spare
+/// bytes alone.
 fn long_record(random: &mut Random) -> Vec<u8> {
     let length = match random.below(4) {
         0 => LONGEST_LIST,
         1 => LONGEST_LIST - random.below(40),
         _ => 1_025 + random.below(LONGEST_LIST - 1_024),
     };
-    let mut list = list_of_length(0x03, (length & !3).max(1_028));
-    list.resize(length, 0);
-    fix_size(&mut list);
+    let entries = match random.below(3) {
+        0 => 28,
+        _ => (length & !3).max(1_028),
+    };
+    let filled = list_of_length(0x03, entries);
+    let spare = random_spare(random, length.saturating_sub(entries));
+    let list = with_spare(&filled, &spare);
     let object = object(random, 3);
     let change = if random.chance(1, 2) {
         set_list(object, list)

@@ -5,6 +5,7 @@ pub mod generate;
 use crate::capi::{self, WhenEmpty};
 use crate::floors;
 use crate::report::Report;
+use crate::tree::spare;
 use second::hex;
 use second::random::Random;
 use second::script::{self, Ending, Played};
@@ -64,6 +65,7 @@ pub fn play_and_count(report: &mut Report, script: &[u8]) -> Played {
     let played = script::play_watched(script, |call, outcome| {
         let number = outcome.eight().map_or(0, |numbers| numbers[0]);
         report.add_call(call.name(), number);
+        spare::count(report, call, outcome);
     });
     report.add_branch(match played.ending {
         Ending::Listing { .. } => "listing",

@@ -1,6 +1,6 @@
 //! One call on both sides, and what it does to the room.
 
-use super::lent;
+use super::{lent, spare};
 use crate::capi;
 use crate::deep::Large;
 use crate::report::Report;
@@ -110,6 +110,7 @@ impl Both {
         let ours = self.ours.play(call);
         let our_answer = ours.eight().expect("only a length has no answer");
         report.add_call(call.name(), our_answer[0]);
+        spare::count(report, call, &ours);
 
         let out_length = match call {
             Call::Read { out_length, .. } => usize::from(*out_length),

@@ -2,9 +2,11 @@
 
 use super::places;
 use crate::mutate::changed_byte;
-use second::cases::build::creator_sid;
+use second::cases::build::{creator_sid, hiding_some, random_spare, with_spare};
+use second::list::HEADER_LENGTH;
 use second::random::Random;
 use second::room::{self, Found, Step, length};
+use second::tree::LONGEST_LIST;
 
 /// What is left may be well formed or not.
 pub fn damaged(random: &mut Random, room: &[u8]) -> Vec<u8> {
@@ -51,7 +53,7 @@ fn random_bytes(random: &mut Random, room: &mut [u8]) {
 fn damage(random: &mut Random, found: &Found, room: &mut [u8]) {
     let objects = found.objects.len();
     let steps = found.steps.len();
-    match random.below(24) {
+    match random.below(27) {
         0 | 1 => {
             let at = random.below(found.limits.room());
             change(random, room, at);
@@ -110,7 +112,8 @@ fn damage(random: &mut Random, found: &Found, room: &mut [u8]) {
             room[at + 1..at + 1 + sid.len()].copy_from_slice(&sid);
         }
         19 | 20 => change_limit(random, room),
-        21.. if objects > 0 => change_what_stays(random, found, room),
+        21..24 if objects > 0 => change_what_stays(random, found, room),
+        24.. => give_spare_bytes(random, found, room),
         _ => copy_list(random, found, room),
     }
 }
@@ -164,6 +167,29 @@ fn copy_own_data(random: &mut Random, found: &Found, room: &mut [u8]) {
     // With or without parent, kind and mark.
     let first = random.below(2) * 3;
     room.copy_within(from + first..from + length::OWN_DATA, to + first);
+}
+
+/// More bytes than the entries ask for, or fewer entries than there are: good,
+/// whichever list it is, but for a size that misses the length at times.
+fn give_spare_bytes(random: &mut Random, found: &Found, room: &mut [u8]) {
+    let slot = *random.pick(&places::slots(found));
+    let length = places::length_in_slot(room, slot);
+    if length < HEADER_LENGTH {
+        return;
+    }
+    let list = &room[slot + 3..slot + 3 + length];
+    let mut list = if random.chance(1, 3) {
+        hiding_some(random, list)
+    } else {
+        let left = LONGEST_LIST - length;
+        let more = left.min(1 + random.below(40)).max(random.below(left + 1));
+        with_spare(list, &random_spare(random, more))
+    };
+    if random.chance(1, 8) {
+        list[2] = changed_byte(random, list[2]);
+    }
+    room[slot + 1..slot + 3].copy_from_slice(&(list.len() as u16).to_le_bytes());
+    room[slot + 3..slot + 3 + list.len()].copy_from_slice(&list);
 }
 
 /// From a slot to another: good, but not fresh.

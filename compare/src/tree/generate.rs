@@ -3,7 +3,7 @@
 
 use super::check::Ours;
 use crate::mutate::{mutate_identity, mutate_list};
-use second::cases::build::{creator_sid, random_list};
+use second::cases::build::{creator_sid, random_list, random_spare, with_spare};
 use second::cases::tree::make;
 use second::cases::tree::palette::{Palette, object};
 use second::random::Random;
@@ -128,6 +128,10 @@ fn long_list(random: &mut Random) -> Vec<u8> {
     let mut list = make::list_of_length(flags, length);
     if random.chance(1, 4) {
         mutate_list(random, &mut list);
+    } else if random.chance(1, 3) {
+        // Up to 65,535 bytes.
+        let spare = 1 + random.below(7);
+        list = with_spare(&list, &random_spare(random, spare));
     }
     list
 }

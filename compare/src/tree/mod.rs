@@ -6,6 +6,7 @@ pub mod generate;
 mod lent;
 mod made;
 mod places;
+pub mod spare;
 pub mod told;
 
 use crate::floors;
@@ -32,6 +33,7 @@ pub fn compare(cases: usize, seed: u64) -> Report {
 
 fn one(random: &mut Random, report: &mut Report) -> Result<(), String> {
     let palette = Palette::draw(random);
+    let palette = roomy_at_times(random, palette);
     let room = sequence(random, report, &palette)?;
     for _ in 0..random.below(3) {
         let damaged = damage::damaged(random, &room);
@@ -46,12 +48,22 @@ fn one(random: &mut Random, report: &mut Report) -> Result<(), String> {
         let large = random.chance(1, 40);
         let heavy = !large && random.chance(3, 4);
         let palette = Palette::of_weight(random, heavy);
+        let palette = roomy_at_times(random, palette);
         let (found, room) = made::room(random, &palette, large);
         check::is_found(&room, &found)?;
         on_any_room(random, report, &palette, &room)
             .map_err(|what| format!("{what}, on a room made of {}", told::tree(&found)))?;
     }
     Ok(())
+}
+
+/// In every third case lists have spare bytes.
+pub fn roomy_at_times(random: &mut Random, palette: Palette) -> Palette {
+    if random.chance(1, 3) {
+        palette.with_spare_bytes()
+    } else {
+        palette
+    }
 }
 
 /// Calls from a start on; gives the room that they leave.
@@ -116,10 +128,13 @@ fn on_any_room(
     room: &[u8],
 ) -> Result<(), String> {
     let ours = Ours::found_in(room);
-    report.add_room(match ours {
+    report.add_room(match &ours {
         Ours::NoTree => "no tree",
         _ => "a tree",
     });
+    if let Ours::Found(found) = &ours {
+        spare::count_in_a_room(report, found);
+    }
     for call in generate::calls_on_any_room(random, palette, &ours) {
         let mut both = Both::of(random, ours.clone(), room);
         Told::default().play(&mut both, random, report, call)?;

@@ -158,19 +158,19 @@ fn random_ones(random: &mut Random) -> Vec<Case> {
     (0..STORED)
         .map(|_| {
             let request = fresh::request(random, MOST_ENTRIES);
-            let request = roomy(random, request, |random| 1 + random.below(40));
+            let request = roomy(random, request, |random, _| 1 + random.below(40));
             let more = random.below(6);
             fitting(request, more)
         })
         .collect()
 }
 
-/// Spare bytes in one of its lists or in more, so many as `length` says, or
-/// entries that a smaller count hides.
+/// Spare bytes in one of its lists or in more, so many as `length` says of what
+/// is left up to the longest list, or entries that a smaller count hides.
 pub fn roomy(
     random: &mut Random,
     mut request: Request,
-    length: impl Fn(&mut Random) -> usize,
+    length: impl Fn(&mut Random, usize) -> usize,
 ) -> Request {
     let always = random.below(3);
     let lists = [
@@ -185,7 +185,8 @@ pub fn roomy(
         if random.chance(1, 4) {
             *list = hiding_some(random, list);
         } else {
-            let length = length(random).min(LONGEST_INPUT - list.len());
+            let left = LONGEST_INPUT.saturating_sub(list.len());
+            let length = length(random, left).min(left);
             *list = with_spare(list, &random_spare(random, length));
         }
     }
