@@ -1,12 +1,12 @@
 -- Spare bytes: whatever they are, the list reads as done with the same entries and the same end; and what the end is.
 use mathlib.Core.Path.{_≡_, refl, sym, ap, ap₂, subst, _∙_}
 use mathlib.Core.List.{List, [], _∷_, _++_, append-assoc, append-nil, flatten}
-use Prim.Native.Nat.{ℕ, zero, suc, _+_, _-_, _*_, _≤_, _<_}
+use Prim.Native.Nat.{ℕ, zero, _+_, _-_, _≤_, _<_}
 use native.Mathlib.Omega.{arith}
 use lib.ListN.{length, take, drop, getD, length-append, length-drop, take-append-drop, List·getD-append}
 use lib.Seq.{drop-drop, drop-at, take-at, drop-append-le, length-take-le, take-all}
 use Rattle.list.specs.Bytes.{Bytes, le, spell}
-use Rattle.list.specs.Entry.{Family, sizeOf, kindOf, sidAt}
+use Rattle.list.specs.Entry.{Family}
 use Rattle.list.specs.List.{entriesEnd, entriesOf, offsets, revOf, countOf, checkOf}
 use Rattle.list.specs.Good.{Whole, Header, Listed, Every}
 use Rattle.list.specs.Spare.{withSpare, bareBy, bare, Sized, sizeSum}

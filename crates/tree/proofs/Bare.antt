@@ -1,11 +1,11 @@
 -- Spare bytes in the model: the calls made without them lead to the same tree but for the own lists and the default list, and give the same answers.
-use mathlib.Core.Path.{_≡_, refl, sym, ap, ap₂, subst, _∙_}
+use mathlib.Core.Path.{_≡_, refl, sym, ap, ap₂, _∙_}
 use mathlib.Core.Bool.{Bool, true, false, cond, _&&_}
 use mathlib.Core.List.{List, [], _∷_, _++_, map}
 use mathlib.Core.Option.{Option, none, some}
-use Prim.Native.Nat.{ℕ, zero, suc, _≤_, _<_}
+use Prim.Native.Nat.{ℕ, zero, suc}
 use native.Mathlib.Omega.{arith}
-use lib.ListN.{length, getD, set}
+use lib.ListN.{length, set}
 use lib.Dec.{leb, ltb}
 use borrow.Author.Tests.{le-leb, leb-true}
 use Rattle.list.specs.Order.{need}
@@ -16,15 +16,14 @@ use Rattle.list.proofs.Tests.{off}
 use Rattle.list.specs.Spare.{bare, Sized}
 use Rattle.list.proofs.Spare.{short-sized, bare-shorter}
 use Rattle.inherit.specs.Asked.{MaybeList}
-use Rattle.inherit.specs.Branch.{Result, resultOf}
-use Rattle.inherit.specs.Compute.{readable, ordinary, ruleOk}
+use Rattle.inherit.specs.Compute.{readable, ordinary}
 use Rattle.inherit.specs.Spare.{bareIf, Each}
 use Rattle.inherit.proofs.Spare.{readable-unseen, like-same, like-bare, result-like}
 use Rattle.tree.specs.General.{bind, isSome, every, rest}
-use Rattle.tree.specs.Model.{Settings, Object, no-object, object, asked, fitting, listBelow, above, listFrom, listOf, listed, shortIf, placed, told, outcome}
-use Rattle.tree.specs.Model.{Change, add, setList, setMark, setOwners, apply, objectsAfter, changeAnswer, limitsOk, startAnswer}
+use Rattle.tree.specs.Model.{Settings, Object, object, asked, fitting, listBelow, above, listFrom, listOf, listed, shortIf, placed, told, outcome}
+use Rattle.tree.specs.Model.{Change, add, setList, setMark, setOwners, apply, objectsAfter, changeAnswer, startAnswer}
 use Rattle.tree.specs.Model.{Part, computed-list, own-list, other-data, bytesIf, dataBytes, partBytes, partTold, readAnswer, accepted, readInto}
-use Rattle.tree.specs.Model.{Call, start, change, undo, read, counts, Tree, objectsOf, undoAnswer, answer, begun, noted, takenOff, next, after}
+use Rattle.tree.specs.Model.{Call, start, change, undo, read, counts, Tree, objectsOf, answer, begun, noted, takenOff, next, after}
 use Rattle.tree.specs.Spare.{bareObject, bareSettings}
 
 -- ---- one list, at most 1,024 bytes long

@@ -21,7 +21,7 @@ use Rattle.inherit.specs.Asked.{MaybeList, lent, typesOk}
 use Rattle.inherit.specs.Inner.Source.{sourceOf}
 use Rattle.inherit.specs.Branch.{Result, absent, holds, resultOf}
 use Rattle.inherit.specs.Compute.{ruleOk, sizeFor, fits, withRoom, computeOf, bytesFor}
-use Rattle.inherit.proofs.Theorems.{Passed, passed-room, present-fits, Computes, computes, listed-source, absent-source}
+use Rattle.inherit.proofs.Theorems.{Passed, passed-room, present-fits, computes, listed-source, absent-source}
 use Rattle.inherit.specs.Spare.{NoSpare}
 use Rattle.inherit.proofs.Spare.{computed-end}
 use Rattle.tree.specs.Model.{shortIf}

@@ -4,25 +4,24 @@
 use mathlib.Core.Path.{_≡_, refl, sym, ap, ap₂, subst, _∙_}
 use mathlib.Core.Bool.{Bool, true, false}
 use mathlib.Core.List.{List, [], _∷_, map}
-use mathlib.Core.Option.{Option, none, some}
+use mathlib.Core.Option.{some}
 use Prim.Native.Nat.{ℕ, _<_}
 use lib.ListN.{length}
 use lib.Dec.{leb}
-use Rattle.list.specs.Answer.{Values}
 use Rattle.inherit.specs.Asked.{MaybeList}
 use Rattle.inherit.specs.Spare.{bareIf}
 use Rattle.tree.specs.Model as Model
 use Rattle.tree.specs.Model.{Settings, Object, Part, shortIf}
 use Rattle.tree.specs.Held.{held}
 use Rattle.tree.specs.Room.{objects, keptSteps, roomFor, slot}
-use Rattle.tree.specs.Calls.{Edit, list, mark, owners, Outcome, startTo, answerValues, ChangeGiven, add, alter}
+use Rattle.tree.specs.Calls.{Edit, list, mark, owners, startTo, answerValues, ChangeGiven, add, alter}
 use Rattle.tree.specs.Shown.{settingsIn, settingsFrom, objectsIn, alteration, changeMeant, Request, start, change, undo, read, counts, meant, readWith, answerTo, playedOn}
 use Rattle.tree.specs.Spare.{bareObject, bareSettings, bareEdit, bareGiven, bareRequest, listGiven}
 use Rattle.tree.proofs.Modelled.{objects-length}
 use Rattle.tree.proofs.Numbers.{accepted-number, start-numbered}
 use Rattle.tree.proofs.Reaches.{begun}
 use Rattle.tree.proofs.Demand3.{Shows, start-as, demand3}
-use Rattle.tree.proofs.Bare.{isOwn, changeGives, bareChange, bareCall, callGives, readsOwn, bareTree, ShortTree, Short, ShortCalls}
+use Rattle.tree.proofs.Bare.{isOwn, changeGives, bareChange, bareCall, callGives, readsOwn, bareTree, ShortTree, ShortCalls}
 use Rattle.tree.proofs.Bare.{many-bare, objects-bare, owns, list-unseen, into-unseen, start-unseen, answer-unseen, after-bare}
 
 -- a call as it is made and the model's call

@@ -1,10 +1,7 @@
 -- Objects, settings and calls without spare bytes (RULES 1.4) in the lists that they have.
-use Prim.Native.Nat.{ℕ}
-use mathlib.Core.List.{List}
 use mathlib.Core.Option.{none}
 use Rattle.inherit.specs.Asked.{MaybeList}
 use Rattle.inherit.specs.Spare.{bareIf}
-use Rattle.tree.specs.Model as Model
 use Rattle.tree.specs.Model.{Settings, Object, withList}
 use Rattle.tree.specs.Calls.{New, Edit, list, mark, owners, ChangeGiven, add, alter}
 use Rattle.tree.specs.Shown.{Request, start, change, undo, read, counts}
