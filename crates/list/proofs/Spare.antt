@@ -226,25 +226,20 @@ module _ (f : Family) (s : List ℕ) (sized : Sized f s) where
           a ∙ ap (λ (y : ℕ). Done y n x) (ap (λ (r : Reading). length (bareBy r s)) (sym q) ∙ bare-length l n x q)
       by (Refused k at) q = q
 
-  pub bare-shorter : length (bare f s) ≤ length s
+  -- what holds of s, and of it without spare bytes where it reads as done
+  of-bare : (P : List ℕ → Type 0) → P s → ((l n x : ℕ) → checkOf f s ≡ Done l n x → P (bare f s)) → P (bare f s)
   unfolding bareBy
-  bare-shorter = by (checkOf f s) refl
+  of-bare P a k = by (checkOf f s) refl
     where
-      by : (r : Reading) → checkOf f s ≡ r → length (bareBy r s) ≤ length s
-      by (Done l n x) q =
-          let h = end-within f s l n x q .1 in
-          let w = told f s l n x q .whole in
-          let b = bare-length l n x q in
-          subst (λ (r : Reading). length (bareBy r s) ≤ length s) q (omega arith)
-      by (Refused k at) q = omega arith
+      by : (r : Reading) → checkOf f s ≡ r → P (bareBy r s)
+      by (Done l n x) q = subst (λ (r : Reading). P (bareBy r s)) q (k l n x q)
+      by (Refused j at) q = a
+
+  pub bare-shorter : length (bare f s) ≤ length s
+  bare-shorter = of-bare (λ t. length t ≤ length s) (omega arith) (λ l n x q. omega (arith, bare-length l n x q, end-within f s l n x q .1, told f s l n x q .whole))
 
   pub bare-entries : entriesOf (bare f s) ≡ entriesOf s
-  unfolding bareBy
-  bare-entries = by (checkOf f s) refl
-    where
-      by : (r : Reading) → checkOf f s ≡ r → entriesOf (bareBy r s) ≡ entriesOf s
-      by (Done l n x) q = subst (λ (r : Reading). entriesOf (bareBy r s) ≡ entriesOf s) q (bare-alike l n x q .entries)
-      by (Refused k at) q = refl
+  bare-entries = of-bare (λ t. entriesOf t ≡ entriesOf s) refl (λ l n x q. bare-alike l n x q .entries)
 
 -- a list that has none is left as it is
 pub bare-already : (f : Family) (s : List ℕ) (l n : ℕ) → Bytes s → checkOf f s ≡ Done l n l → bare f s ≡ s

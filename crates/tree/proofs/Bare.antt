@@ -25,6 +25,7 @@ use Rattle.tree.specs.Model.{Change, add, setList, setMark, setOwners, a
 use Rattle.tree.specs.Model.{Part, computed-list, own-list, other-data, bytesIf, dataBytes, partBytes, partTold, readAnswer, accepted, readInto}
 use Rattle.tree.specs.Model.{Call, start, change, undo, read, counts, Tree, objectsOf, answer, begun, noted, takenOff, next, after}
 use Rattle.tree.specs.Spare.{bareObject, bareSettings}
+use Rattle.tree.proofs.Likeness.{length-map, set-map, map-more, rest-map, bind-like}
 
 -- ---- one list, at most 1,024 bytes long
 
@@ -40,24 +41,11 @@ bare-short (some s) h = le-leb (length (bare access s)) 1024 (omega (arith, leb-
 
 -- ---- objects
 
-pub many-bare : (os : List Object) → length (map bareObject os) ≡ length os
-many-bare [] = refl
-many-bare (o ∷ os) = ap suc (many-bare os)
-
 pub object-bare : (os : List Object) (i : ℕ) → object (map bareObject os) i ≡ bareObject (object os i)
 unfolding bareIf
 object-bare [] i = refl
 object-bare (o ∷ os) zero = refl
 object-bare (o ∷ os) (suc i) = object-bare os i
-
-set-bare : (os : List Object) (i : ℕ) (o : Object) → set (map bareObject os) i (bareObject o) ≡ map bareObject (set os i o)
-set-bare [] i o = refl
-set-bare (x ∷ os) zero o = refl
-set-bare (x ∷ os) (suc i) o = ap (λ (ps : List Object). bareObject x ∷ ps) (set-bare os i o)
-
-add-bare : (os : List Object) (o : Object) → map bareObject os ++ (bareObject o ∷ []) ≡ map bareObject (os ++ (o ∷ []))
-add-bare [] o = refl
-add-bare (x ∷ os) o = ap (λ (ps : List Object). bareObject x ∷ ps) (add-bare os o)
 
 -- a change without spare bytes, and the list that it gives
 unfoldable pub bareChange : Change → Change
@@ -74,10 +62,10 @@ changeGives (setOwners i o g) = none
 
 apply-bare : (c : Change) (os : List Object) → apply (bareChange c) (map bareObject os) ≡ map bareObject (apply c os)
 unfolding apply bareChange
-apply-bare (add o) os = add-bare os o
-apply-bare (setList i l) os = rw (object-bare os i) (set-bare os i _)
-apply-bare (setMark i m) os = rw (object-bare os i) (set-bare os i _)
-apply-bare (setOwners i o g) os = rw (object-bare os i) (set-bare os i _)
+apply-bare (add o) os = sym (map-more bareObject os o)
+apply-bare (setList i l) os = rw (object-bare os i) (sym (set-map bareObject os i _))
+apply-bare (setMark i m) os = rw (object-bare os i) (sym (set-map bareObject os i _))
+apply-bare (setOwners i o g) os = rw (object-bare os i) (sym (set-map bareObject os i _))
 
 pub objects-bare : (cs : List Change) → objectsAfter (map bareChange cs) ≡ map bareObject (objectsAfter cs)
 unfolding objectsAfter
@@ -119,11 +107,6 @@ owns (c ∷ cs) h = owns-apply c (objectsAfter cs) (h .0) (owns cs (h .1))
 
 -- ---- computed lists
 
-bind-same : (x : Option MaybeList) (f g : MaybeList → Option MaybeList) → ((a : MaybeList) → f a ≡ g a) → bind x f ≡ bind x g
-unfolding bind
-bind-same none f g h = refl
-bind-same (some a) f g h = h a
-
 above-same : (p : Option ℕ) (f g : ℕ → Option MaybeList) → ((i : ℕ) → f i ≡ g i) → above p f ≡ above p g
 above-same none f g h = refl
 above-same (some i) f g h = h i
@@ -145,15 +128,15 @@ module _ (t : Settings) (d : shortIf (t .default) ≡ true) where
     from-unseen (suc n) i =
         ap (λ (o : Object). bind (above (o .parent) (listFrom (bareSettings t) (map bareObject os) n)) (listBelow (bareSettings t) o)) (object-bare os i)
         ∙ ap (λ (x : Option MaybeList). bind x (listBelow (bareSettings t) (bareObject (object os i)))) (above-same (object os i .parent) _ _ (from-unseen n))
-        ∙ bind-same _ _ _ (below-unseen (object os i) (z i))
+        ∙ bind-like _ _ _ (λ a e. below-unseen (object os i) (z i) a)
 
     pub list-unseen : (i : ℕ) → listOf (bareSettings t) (map bareObject os) i ≡ listOf t os i
-    list-unseen i = ap (λ (n : ℕ). listFrom (bareSettings t) (map bareObject os) n i) (many-bare os) ∙ from-unseen (length os) i
+    list-unseen i = ap (λ (n : ℕ). listFrom (bareSettings t) (map bareObject os) n i) (length-map bareObject os) ∙ from-unseen (length os) i
 
     listed-unseen : listed (bareSettings t) (map bareObject os) ≡ listed t os
     unfolding listed
     listed-unseen =
-        ap (every (λ i. isSome (listOf (bareSettings t) (map bareObject os) i))) (many-bare os)
+        ap (every (λ i. isSome (listOf (bareSettings t) (map bareObject os) i))) (length-map bareObject os)
         ∙ every-same _ _ (length os) (λ i. ap isSome (list-unseen i))
 
     outcome-unseen : (i : ℕ) → outcome (bareSettings t) (map bareObject os) i ≡ outcome t os i
@@ -176,8 +159,8 @@ module _ (t : Settings) (d : shortIf (t .default) ≡ true) (os : List Object) (
 
   placed-unseen : (p : Option ℕ) → placed (map bareObject os) p ≡ placed os p
   unfolding placed
-  placed-unseen none = rw (many-bare os) refl
-  placed-unseen (some p) = rw (many-bare os, object-bare os p) refl
+  placed-unseen none = rw (length-map bareObject os) refl
+  placed-unseen (some p) = rw (length-map bareObject os, object-bare os p) refl
 
   given-unseen : (l : MaybeList) → shortIf l ≡ true → (v w : Values) → v ≡ w
       → readable (bareIf l) 2 (need (shortIf (bareIf l)) (refused 8 0 0) v) ≡ readable l 2 (need (shortIf l) (refused 8 0 0) w)
@@ -187,12 +170,12 @@ module _ (t : Settings) (d : shortIf (t .default) ≡ true) (os : List Object) (
   change-unseen : (c : Change) → shortIf (changeGives c) ≡ true → changeAnswer (bareSettings t) (map bareObject os) (bareChange c) ≡ changeAnswer t os c
   unfolding changeAnswer bareChange changeGives
   change-unseen (add o) h =
-      rw (placed-unseen (o .parent), many-bare os, readable-unseen (o .list) 2 _ (short-each (o .list) h), bare-short (o .list) h, h)
+      rw (placed-unseen (o .parent), length-map bareObject os, readable-unseen (o .list) 2 _ (short-each (o .list) h), bare-short (o .list) h, h)
       (rw (after-unseen (add o) h (length os)) refl)
-  change-unseen (setList i l) h = rw (many-bare os) (ap (need (ltb i (length os)) (refused 9 0 0)) (given-unseen l h _ _ (after-unseen (setList i l) h i)))
-  change-unseen (setMark i m) h = rw (many-bare os) (ap (need (ltb i (length os)) (refused 9 0 0)) (after-unseen (setMark i m) h i))
+  change-unseen (setList i l) h = rw (length-map bareObject os) (ap (need (ltb i (length os)) (refused 9 0 0)) (given-unseen l h _ _ (after-unseen (setList i l) h i)))
+  change-unseen (setMark i m) h = rw (length-map bareObject os) (ap (need (ltb i (length os)) (refused 9 0 0)) (after-unseen (setMark i m) h i))
   change-unseen (setOwners i o g) h =
-      rw (many-bare os)
+      rw (length-map bareObject os)
       (ap (λ (v : Values). need (ltb i (length os)) (refused 9 0 0) (need (ordinary o) (refused 6 0 0) (need (ordinary g) (refused 6 0 0) v)))
       (after-unseen (setOwners i o g) h i))
 
@@ -207,7 +190,7 @@ module _ (t : Settings) (d : shortIf (t .default) ≡ true) (os : List Object) (
   read-unseen : (x : Part) (i room : ℕ) → isOwn x ≡ false → readAnswer (bareSettings t) (map bareObject os) x i room ≡ readAnswer t os x i room
   unfolding readAnswer
   read-unseen x i room h =
-      rw (many-bare os)
+      rw (length-map bareObject os)
       (ap₂ (λ (b : List ℕ) (v : Values). need (ltb i (length os)) (refused 9 0 0) (need (leb (length b) room) (refused 8 0 0) v)) (told-unseen x i h .0) (told-unseen x i h .1))
 
   pub into-unseen : (x : Part) (i : ℕ) (out : List ℕ) → isOwn x ≡ false → readInto (bareSettings t) (map bareObject os) x i out ≡ readInto t os x i out
@@ -258,17 +241,12 @@ module _ (s : Tree) (g : ShortTree s) where
   answer-unseen undo h o = refl
   answer-unseen (read x i out) h o =
       rw (objects-bare (s .changes)) (read-unseen (s .settings) (g .default) (objectsOf s) (owns (s .changes) (g .changes)) x i (length out) o)
-  answer-unseen counts h o = rw (objects-bare (s .changes), many-bare (objectsOf s)) refl
-
-  rest-bare : (cs : List Change) → rest (map bareChange cs) ≡ map bareChange (rest cs)
-  unfolding rest
-  rest-bare [] = refl
-  rest-bare (c ∷ cs) = refl
+  answer-unseen counts h o = rw (objects-bare (s .changes), length-map bareObject (objectsOf s)) refl
 
   off-bare : (k : ℕ) → takenOff (bareTree s) k ≡ bareTree (takenOff s k)
   unfolding takenOff
   off-bare zero = refl
-  off-bare (suc k) = rw (rest-bare (s .changes)) refl
+  off-bare (suc k) = rw (rest-map bareChange (s .changes)) refl
 
   cond-bare : (b : Bool) (x y : Tree) → cond b (bareTree x) (bareTree y) ≡ bareTree (cond b x y)
   cond-bare true x y = refl

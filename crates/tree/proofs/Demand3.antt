@@ -34,7 +34,7 @@ use Rattle.tree.proofs.Keeps.{Formed, formed-facts}
 use Rattle.tree.proofs.Answered.{start-facts}
 use Rattle.tree.proofs.Plays.{Passes, on, stop, then, need-first, reads-first, call-ends}
 use Rattle.tree.proofs.Reaches.{settingsBytes, Reached, Begun, begun, start-stays, reaches, keeps}
-use Rattle.tree.proofs.Likeness.{Good, objectsFrom, replay-like, lists-exact}
+use Rattle.tree.proofs.Likeness.{rest-map, Good, objectsFrom, replay-like, lists-exact}
 use Rattle.tree.proofs.Modelled.{said, settings-facts, readable-as, test-as, short-is, objects-shown, shown-length, objects-length, lists-like, change-as}
 use Rattle.tree.proofs.Reading.{ReadAs, part-as, counts-as}
 use Rattle.tree.proofs.Numbers.{accepted-number, change-numbered, undo-numbered, start-numbered}
@@ -84,11 +84,6 @@ call-change (alter i x) r = refl
 
 abbrev treeOf : Settings → Past ChangeGiven → Model.Tree
 treeOf b p = record { settings = settingsFrom b; changes = map changeMeant (p .done); kept = p .left }
-
-rest-map : (cs : List ChangeGiven) → rest (map changeMeant cs) ≡ map changeMeant (rest cs)
-unfolding rest
-rest-map [] = refl
-rest-map (c ∷ cs) = refl
 
 module _ (b : Settings) (r : List ℕ) (h : accepted (startTo b r .answer) ≡ true) where
   abbrev e : List ℕ
@@ -222,7 +217,7 @@ module _ (b : Settings) (r : List ℕ) (h : accepted (startTo b r .answer) ≡ t
   off-as : (p : Past ChangeGiven) (k : ℕ) → Model.takenOff (treeOf b p) k ≡ treeOf b (unnoted (rules (b .object-limit) e) (b .step-limit) p k)
   unfolding Model.takenOff unnoted
   off-as p zero = refl
-  off-as p (suc k) = rw (rest-map (p .done)) refl
+  off-as p (suc k) = rw (rest-map changeMeant (p .done)) refl
 
   change-next : (qs : List (Step ChangeGiven)) (c : ChangeGiven) → Model.next (tree qs) (Model.change (changeMeant c)) ≡ tree (edit c ∷ qs)
   unfolding Model.next Model.answer past remains next accepts callTo changeWith

@@ -28,7 +28,7 @@ use Rattle.tree.specs.Formed.{placedIn}
 use Rattle.tree.specs.Work.{askedIn, taken, computed}
 use Rattle.tree.proofs.Computed.{all-passed, computed-reads, computed-exact}
 use Rattle.tree.specs.Calls.{Edit, list, mark, owners, editAt, editBytes, nobody, objectFor, ChangeGiven, add, alter}
-use Rattle.tree.specs.General.{bind, isSome, every}
+use Rattle.tree.specs.General.{bind, isSome, every, rest}
 use Rattle.tree.proofs.History.{replay}
 use Rattle.tree.proofs.Replay.{Blocks, reads, fine, when, change, rules, fromRoot, gather, work}
 use Rattle.tree.proofs.Blocks.{Shows, length-guid, new-shows, new-good}
@@ -59,6 +59,17 @@ module _ {A B : Type 0} (f : A → B) where
   pub map-more : (l : List A) (x : A) → map f (l ++ (x ∷ [])) ≡ map f l ++ (f x ∷ [])
   map-more [] x = refl
   map-more (y ∷ l) x = ap (λ (r : List B). f y ∷ r) (map-more l x)
+
+  pub rest-map : (l : List A) → rest (map f l) ≡ map f (rest l)
+  unfolding rest
+  rest-map [] = refl
+  rest-map (x ∷ l) = refl
+
+-- what goes on alike from what is there
+pub bind-like : {A B : Type 0} (x : Option A) (f g : A → Option B) → ((a : A) → x ≡ some a → f a ≡ g a) → bind x f ≡ bind x g
+unfolding bind
+bind-like none f g h = refl
+bind-like (some a) f g h = h a refl
 
 -- ---- one object
 
@@ -254,30 +265,21 @@ module _ (n s : ℕ) (e : List ℕ) (hr : ruleOk (ruleOf e) ≡ true) (hd : read
       ap (λ (v : Values). taken v (bytesFor (resultOf access (askedIn e p b)))) (passed-room (askedIn e p b) 1024 (all-passed e p b hr hp hb hd))
       ∙ room-like (resultOf access (askedIn e p b))
 
-  -- from the root: what is there reads as done
-  from-reads : (d : Blocks) (more i : ℕ) (o : MaybeList) → fromRoot e d more i ≡ some o → reads o ≡ true
+  -- from the root: what is there was computed, so it reads as done, and its entries end at its length
+  from-computed : (P : MaybeList → Type 0) → ((p : MaybeList) (b : List ℕ) (o : MaybeList) → computed e p b ≡ some o → P o)
+      → (d : Blocks) (more i : ℕ) (o : MaybeList) → fromRoot e d more i ≡ some o → P o
   unfolding fromRoot
-  from-reads d zero i o h = let z : _≡_ {A = ℕ} 0 1 = cc in absurd (omega arith)
-  from-reads d (suc more) i o h =
+  from-computed P k d zero i o h = let z : _≡_ {A = ℕ} 0 1 = cc in absurd (omega arith)
+  from-computed P k d (suc more) i o h =
       let b = bind-is _ _ o h in
-      computed-reads e (b .0) (getD d i []) o (b .1 .1)
+      k (b .0) (getD d i []) o (b .1 .1)
 
-  -- and its entries end at its length
-  from-exact : (d : Blocks) (more i : ℕ) (o : MaybeList) → fromRoot e d more i ≡ some o → NoSpare o
-  unfolding fromRoot
-  from-exact d zero i o h = let z : _≡_ {A = ℕ} 0 1 = cc in absurd (omega arith)
-  from-exact d (suc more) i o h =
-      let b = bind-is _ _ o h in
-      computed-exact e (b .0) (getD d i []) o (b .1 .1)
+  from-reads : (d : Blocks) (more i : ℕ) (o : MaybeList) → fromRoot e d more i ≡ some o → reads o ≡ true
+  from-reads = from-computed (λ o. reads o ≡ true) (computed-reads e)
 
   pub lists-exact : (d : Blocks) (ls : List MaybeList) → work e d ≡ some ls → (i : ℕ) → i < length d → NoSpare (getD ls i none)
   unfolding work
-  lists-exact d ls h i k = from-exact d (length d) i _ (gather-at none (length d) (fromRoot e d (length d)) ls h i k)
-
-  bind-like : {A B : Type 0} (x : Option A) (f g : A → Option B) → ((a : A) → x ≡ some a → f a ≡ g a) → bind x f ≡ bind x g
-  unfolding bind
-  bind-like none f g h = refl
-  bind-like (some a) f g h = h a refl
+  lists-exact d ls h i k = from-computed NoSpare (computed-exact e) d (length d) i _ (gather-at none (length d) (fromRoot e d (length d)) ls h i k)
 
   module _ (d : Blocks) (G : Good d) where
     from-step : (more i : ℕ) → i < length d

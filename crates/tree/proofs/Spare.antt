@@ -17,12 +17,13 @@ use Rattle.tree.specs.Room.{objects, keptSteps, roomFor, slot}
 use Rattle.tree.specs.Calls.{Edit, list, mark, owners, startTo, answerValues, ChangeGiven, add, alter}
 use Rattle.tree.specs.Shown.{settingsIn, settingsFrom, objectsIn, alteration, changeMeant, Request, start, change, undo, read, counts, meant, readWith, answerTo, playedOn}
 use Rattle.tree.specs.Spare.{bareObject, bareSettings, bareEdit, bareGiven, bareRequest, listGiven}
+use Rattle.tree.proofs.Likeness.{length-map}
 use Rattle.tree.proofs.Modelled.{objects-length}
 use Rattle.tree.proofs.Numbers.{accepted-number, start-numbered}
 use Rattle.tree.proofs.Reaches.{begun}
 use Rattle.tree.proofs.Demand3.{Shows, start-as, demand3}
 use Rattle.tree.proofs.Bare.{isOwn, changeGives, bareChange, bareCall, callGives, readsOwn, bareTree, ShortTree, ShortCalls}
-use Rattle.tree.proofs.Bare.{many-bare, objects-bare, owns, list-unseen, into-unseen, start-unseen, answer-unseen, after-bare}
+use Rattle.tree.proofs.Bare.{objects-bare, owns, list-unseen, into-unseen, start-unseen, answer-unseen, after-bare}
 
 -- a call as it is made and the model's call
 edit-bare : (i : ℕ) (e : Edit) → alteration i (bareEdit e) ≡ bareChange (alteration i e)
@@ -142,7 +143,7 @@ module _ (t : Settings) (r : List ℕ) (h : Model.accepted (answerValues (startT
   own-same = without .objects-are ∙ objects-bare (tree .changes) ∙ ap (map bareObject) (sym (as-is .objects-are))
 
   as-many : objects bare-room ≡ objects room
-  as-many = sym (objects-length bare-room) ∙ ap length own-same ∙ many-bare (objectsIn room) ∙ objects-length room
+  as-many = sym (objects-length bare-room) ∙ ap length own-same ∙ length-map bareObject (objectsIn room) ∙ objects-length room
 
   lists-same : (i : ℕ) → i < objects room → held (slot i bare-room) ≡ held (slot i room)
   lists-same i k =
