@@ -39,7 +39,8 @@ export PIPETEASEL_LIB = target/emulated
 endif
 
 .PHONY: play axs examples c_examples test quick edits lib second stand_in hostile cases bench
-.PHONY: compare compare_built compare_tests compare_list compare_compute compare_tree compare_deep compare_script compare_program
+.PHONY: compare compare_built compare_tests compare_list compare_compute compare_access compare_tree compare_deep compare_script
+.PHONY: compare_program
 
 play: axs
 	@$(EMULATED) target/bin/axs <$(SCRIPT)
@@ -55,7 +56,7 @@ examples: axs
 
 # play_file is handed the document's script, whose text is that of axs
 c_examples: lib
-	@for program in read_list compute_list undo_tree play_script play_file; do \
+	@for program in read_list compute_list undo_tree play_script play_file who_may_open; do \
 		$(CC) $(C99) examples/$$program.c -L. -lpipeteasel -o target/$$program || exit 1; \
 		expected=examples/$$program.out; [ $$program != play_file ] || expected=examples/document.out; \
 		$(EMULATED) target/$$program examples/document.axs >target/$$program.txt && diff target/$$program.txt $$expected || exit 1; \
@@ -98,7 +99,7 @@ stand_in: lib
 
 # each layer by itself, so that `make -j` compares several at a time
 COMPARE = $(CARGO_DIR)/release/compare
-compare: compare_list compare_compute compare_tree compare_deep compare_script compare_program
+compare: compare_list compare_compute compare_tree compare_deep compare_script compare_program compare_access
 
 compare_built: lib axs $(STAND_IN)
 	$(CARGO) --manifest-path compare/Cargo.toml
@@ -107,7 +108,7 @@ compare_built: lib axs $(STAND_IN)
 compare_tests: compare_built
 	cargo test --quiet --release --offline --target-dir $(CARGO_DIR) --manifest-path compare/Cargo.toml
 
-compare_list compare_compute: compare_%: compare_built
+compare_list compare_compute compare_access: compare_%: compare_built
 	tools/timed $* $(COMPARE) $* --cases $(CASES) --seed $(SEED)
 
 compare_tree: compare_built

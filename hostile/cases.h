@@ -14,12 +14,18 @@ typedef uint32_t Case(void);
 extern unsigned spare_lists;
 /* Lists that pt_read took, in all cases: of 65,533 to 65,535 bytes, and whose spare bytes begin like an entry. */
 extern uint64_t long_lists, entry_lists;
+/* What decided pt_may_open's answers, where a list was asked for something: allows for each bit, a deny, or no entry at all for some bit. */
+enum { ALLOWED, DENIED, NOT_SAID, DECISIONS };
+extern uint64_t decisions[DECISIONS];
+/* Steps of pt_step: to an entry, and where none was left. */
+extern uint64_t entry_steps, last_steps;
 
 Case case_identity, case_read, case_compute, case_play;
 Case case_room, case_start, case_add, case_set_list, case_set_mark, case_set_owner, case_undo;
 Case case_list, case_own, case_data, case_counts;
+Case case_may_open, case_step;
 
-/* In lists.c, for both: */
+/* In lists.c, for all: */
 void lend_answer(void);
 void lend_identities(uint32_t spoilt, int list);            /* owner and group; list: one that is lent already, or -1 */
 int is_list_refusal(void);                                  /* 1 to 5 */

@@ -1,6 +1,6 @@
 /* Hands every call of the library random, cut, changed and well-formed bytes between guard pages, and checks that it reads and writes
- * nothing but what was lent, gives no answer outside document 01's table, changes nothing that was lent where it refuses, and doesn't look
- * at spare bytes behind a list's entries.
+ * nothing but what was lent, gives no number that the documents don't give that call, changes nothing that was lent where it refuses, and
+ * doesn't look at spare bytes behind a list's entries.
  * Usage: hostile [CALLS [SEED]]. The same two numbers make the same calls. Ends with 1 at the first fault, and where a number that a
  * call can give, or a list with spare bytes, came less often than it must. `hostile touch` touches a guard page itself, which must be
  * seen as a fault. */
@@ -13,9 +13,9 @@
 #include "cases.h"
 #include "rooms.h"
 
-enum { NUMBERS = 14 };
+enum { NUMBERS = 15 };
 
-/* Which numbers a call can give: document 01's orders. */
+/* Which numbers a call can give: the documents' orders. */
 enum {
     DONE = 1 << 0,
     LIST = 1 << 1 | 1 << 2 | 1 << 3 | 1 << 4 | 1 << 5,
@@ -27,8 +27,10 @@ enum {
     NO_STEP = 1 << 11,
     RULE = 1 << 12,
     NO_TREE = 1 << 13,
+    GENERIC = 1 << 14,
     CREATOR_OWNER_OR_GROUP = 1 << 1 | 1 << 2, /* of pt_identity */
-    SOME_BYTES = 1 << 1                       /* of pt_room: any size but 0 */
+    SOME_BYTES = 1 << 1,                      /* of pt_room: any size but 0 */
+    TOO_MANY_HELD = 1 << 7                    /* of pt_may_open */
 };
 
 /* A call's weight is its share of 1,000. Cheap calls come often; calls on a tree cost more, as they look at the whole room.
@@ -42,12 +44,16 @@ static struct {
     uint32_t least_spare; /* done with a list that has spare bytes, handed in or given back; 0 where there is none to be had */
     uint64_t calls, spare, came[NUMBERS];
 } calls[] = {
-    {"pt_identity", 140, case_identity, DONE | CREATOR_OWNER_OR_GROUP | IDENTITY,
-     {[0] = 21000, [1] = 1800, [2] = 1300, [6] = 9600}, 0, 0, 0, {0}},
-    {"pt_read", 250, case_read, DONE | LIST | NO_ROOM,
-     {[0] = 31000, [1] = 6500, [2] = 7800, [3] = 2400, [4] = 3000, [5] = 2900, [8] = 8300}, 9000, 0, 0, {0}},
-    {"pt_compute", 170, case_compute, DONE | LIST | IDENTITY | TYPES_7 | NO_ROOM | RULE,
-     {[0] = 20000, [1] = 1700, [2] = 740, [3] = 230, [4] = 280, [5] = 270, [6] = 3200, [7] = 3900, [8] = 9300, [12] = 1700}, 5900, 0, 0, {0}},
+    {"pt_identity", 90, case_identity, DONE | CREATOR_OWNER_OR_GROUP | IDENTITY,
+     {[0] = 13500, [1] = 1150, [2] = 830, [6] = 6100}, 0, 0, 0, {0}},
+    {"pt_read", 190, case_read, DONE | LIST | NO_ROOM,
+     {[0] = 23500, [1] = 4900, [2] = 5900, [3] = 1800, [4] = 2250, [5] = 2200, [8] = 6300}, 6800, 0, 0, {0}},
+    {"pt_step", 60, case_step, DONE | LIST,
+     {[0] = 11000, [1] = 1000, [2] = 1250, [3] = 390, [4] = 480, [5] = 460}, 3000, 0, 0, {0}},
+    {"pt_may_open", 80, case_may_open, DONE | LIST | IDENTITY | TOO_MANY_HELD | GENERIC,
+     {[0] = 13000, [1] = 410, [2] = 470, [3] = 150, [4] = 190, [5] = 180, [6] = 2000, [7] = 1400, [14] = 1750}, 2900, 0, 0, {0}},
+    {"pt_compute", 140, case_compute, DONE | LIST | IDENTITY | TYPES_7 | NO_ROOM | RULE,
+     {[0] = 16500, [1] = 1400, [2] = 610, [3] = 190, [4] = 230, [5] = 220, [6] = 2600, [7] = 3200, [8] = 7600, [12] = 1400}, 4800, 0, 0, {0}},
     {"pt_room", 50, case_room, DONE | SOME_BYTES,
      {[0] = 5300, [1] = 7100}, 0, 0, 0, {0}},
     {"pt_start", 35, case_start, DONE | LIST | NO_ROOM | RULE,
@@ -82,9 +88,14 @@ static const struct {
     const uint64_t *came;
     uint32_t least;
 } totals[] = {
-    {"ranges lent for a second parameter", &lent_twice, 27000},
-    {"lists read of 65,533 to 65,535 bytes", &long_lists, 28},
-    {"lists read whose spare bytes begin like an entry", &entry_lists, 3500},
+    {"ranges lent for a second parameter", &lent_twice, 26000},
+    {"lists read of 65,533 to 65,535 bytes", &long_lists, 21},
+    {"lists read whose spare bytes begin like an entry", &entry_lists, 2650},
+    {"answers yes by a list's allows", &decisions[ALLOWED], 1550},
+    {"answers no by a deny", &decisions[DENIED], 2100},
+    {"answers no as no entry has a bit", &decisions[NOT_SAID], 6300},
+    {"steps to an entry", &entry_steps, 5700},
+    {"steps with no entry left", &last_steps, 5400},
 };
 
 enum { TOTALS = sizeof totals / sizeof *totals };
@@ -131,7 +142,7 @@ static void check_table(void)
     for (i = 0; i < CALLS; i++)
         for (number = 0; number < NUMBERS; number++)
             if (can_give(i, number) != (calls[i].least[number] > 0))
-                fault("the table asks for number %d of %s, or doesn't, against document 01", number, calls[i].name);
+                fault("the table asks for number %d of %s, or doesn't, against the documents", number, calls[i].name);
 }
 
 /* Numbers that a call can give and didn't are shown with a 0. */

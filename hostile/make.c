@@ -35,6 +35,11 @@ uint16_t get16(const uint8_t *from)
     return (uint16_t)(from[0] | from[1] << 8);
 }
 
+uint32_t get32(const uint8_t *from)
+{
+    return get16(from) | (uint32_t)get16(from + 2) << 16;
+}
+
 void put16(uint8_t *to, size_t value)
 {
     to[0] = (uint8_t)value;

@@ -13,6 +13,7 @@ uint32_t pick(uint32_t n);  /* 0 to n - 1 */
 int chance(uint32_t n);     /* once in n */
 
 uint16_t get16(const uint8_t *from);
+uint32_t get32(const uint8_t *from);
 void put16(uint8_t *to, size_t value);
 void put32(uint8_t *to, uint32_t value);
 

@@ -2,16 +2,16 @@
  *
  * Every call checks what it is handed, whatever bytes that is. A null pointer is allowed where its length is 0.
  * Ranges that a call may change overlap no other; those that it only reads may be the same or overlap.
- * Nothing that was lent changes where a call refuses; the answer itself is written always.
+ * Nothing that was lent changes where a call refuses; the answer itself is written always, and so is pt_step's entry.
  * The tree's calls that change it use some 240 KB of stack.
  *
  * An answer is eight numbers:
  *   0  the number: 0 done, or why the call refused (PT_..., below)
  *   1  which list a refusal concerns: 1 parent, 2 creator, own or set list, 3 default; else 0
  *   2  the offset of a refusal's entry, else 0
- *   3  done: the length
- *   4  done: 1 present, 0 absent
- *   5  done: the entry count
+ *   3  done: the length; of pt_may_open 1 for yes and 0 for no; of pt_step where the entry begins, 0 where none is left
+ *   4  done: 1 present, 0 absent; of pt_may_open 0; of pt_step 1, or 0 where no entry is left
+ *   5  done: the entry count; of pt_may_open and pt_step 0
  *   6  done: the control bits
  *   7  done, of pt_read: where the entries end, 8 where there are none; else 0
  */
@@ -32,15 +32,17 @@ enum {
     PT_TYPE = 3,     /* entry type not 00, 01, 05, 06, or 05 and 06 under revision 2 */
     PT_BITS = 4,     /* an unknown bit in the flags or in the object word */
     PT_SID = 5,      /* SID first byte not 1, or n above 15, in an entry */
-    PT_IDENTITY = 6, /* owner or group isn't exactly one SID, or is a placeholder */
-    PT_TYPES = 7,    /* object types not a multiple of 16 bytes, or over 64 bytes */
+    PT_IDENTITY = 6, /* owner or group isn't exactly one SID, or is a placeholder; of pt_may_open: the held bytes aren't SIDs to
+                        their end (placeholders are allowed there) */
+    PT_TYPES = 7,    /* object types not a multiple of 16 bytes, or over 64 bytes; of pt_may_open: more than 32 SIDs held */
     PT_ROOM = 8,     /* no room: a result over the lent length or over 65,532 bytes; an index row too short; in a tree a list
                         given, or any list that the change or undo would compute, over 1,024 bytes */
     PT_OBJECT = 9,   /* no such object; parent missing, not a container, or not as the first or later add asks */
     PT_FULL = 10,    /* object limit reached */
     PT_NO_STEP = 11, /* undo with no kept step */
     PT_RULE = 12,    /* limits or rule out of range, or lent room under the formula */
-    PT_TREE = 13     /* the room handed in isn't a well-formed tree */
+    PT_TREE = 13,    /* the room handed in isn't a well-formed tree */
+    PT_GENERIC = 14  /* a generic bit (F0000000) is wanted */
 };
 
 /* Settings of a computation: bits of a number. Other bits aren't looked at. */
@@ -67,6 +69,32 @@ uint32_t pt_identity(const uint8_t *bytes, size_t bytes_len);
  * row_len counts elements, not bytes. 4,095 elements are enough for every list, with spare bytes or without: an entry has at least
  * 16 bytes, and no more than 65,527 can follow a header. */
 void pt_read(const uint8_t *list, size_t list_len, uint16_t *row, size_t row_len, uint32_t answer[8]);
+
+/* The viewer's walk over a list, entry by entry, where they lie. place: 0 to begin with, then entry[7] of the last call, until
+ * answer[4] is 0. Any other number may be passed: the entry meant is the first one that begins at or after place. Spare bytes are
+ * no entry. The whole list is tested at every step, as pt_read tests it: 1 to 5 (list 0, with the offset). Nothing else refuses.
+ * Done: place 4 is 1 and place 3 where the entry begins, or both are 0 where none is left; places 5 to 7 are 0. The entry:
+ *   0  its type
+ *   1  its flags
+ *   2  its size
+ *   3  its mask
+ *   4  its object word, 0 where its type has none
+ *   5  where its SID begins, counted from the entry's first byte
+ *   6  the SID's length
+ *   7  the place of what follows the entry, counted from the list's first byte
+ * Refused, or where no entry is left, all eight are 0. */
+void pt_step(const uint8_t *list, size_t list_len, uint32_t place, uint32_t entry[8], uint32_t answer[8]);
+
+/* Whether someone who holds the SIDs in held, at most 32 laid end to end, may do what every bit of wanted says with an object of
+ * this type that has this list, or no list where has_list is 0 (what is passed for it then is not looked at). Done: place 3 is 1
+ * for yes, 0 for no. Yes exactly if, for each wanted bit by itself, the first entry that isn't inherit only, names a held SID and
+ * has the bit is an allow. An object entry counts only without an ObjectType, or with one that is type. A bit that no entry speaks
+ * of is a no; an absent list, or a wanted mask of 0, is a yes. SIDs are compared byte for byte, placeholders like any other. Not
+ * looked at: other flags than inherit only, an InheritedObjectType, spare bytes. Nothing is mapped: a generic bit in an entry's
+ * mask says nothing about other bits. Tests in order: wanted 14, the list 1 to 5 (list 0, with the offset), held 6, then 7, all
+ * before the yes of an absent list or of nothing wanted. */
+void pt_may_open(uint32_t has_list, const uint8_t *list, size_t list_len, const uint8_t type[16],
+                 const uint8_t *held, size_t held_len, uint32_t wanted, uint32_t answer[8]);
 
 /* Computes the list of a new object by MS-DTYP under rule 1 (the printed text) or 2 (what the library runs), onto the
  * front of out; bytes past the result stay as they were. mapping: read, write, execute, all. What is passed for a

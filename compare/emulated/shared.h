@@ -7,9 +7,12 @@
 
 /* What each call takes, in the header's order. The two programs are made from these lines: AS_LENT and so on is what a program
  * makes of a parameter. LENT: bytes to read; CHANGED: bytes, ROW: 16-bit numbers that the call may change, each with a length;
- * NUMBER, MAPPING, TYPE and ANSWER: as in the header. */
+ * NUMBER, MAPPING, TYPE and ANSWER: as in the header, where pt_step's entry is made as an answer is. */
 #define TAKES_pt_identity(AS) AS##_LENT(bytes)
 #define TAKES_pt_read(AS) AS##_LENT(list), AS##_ROW(row), AS##_ANSWER(answer)
+#define TAKES_pt_step(AS) AS##_LENT(list), AS##_NUMBER(place), AS##_ANSWER(entry), AS##_ANSWER(answer)
+#define TAKES_pt_may_open(AS) \
+    AS##_NUMBER(has_list), AS##_LENT(list), AS##_TYPE(type), AS##_LENT(held), AS##_NUMBER(wanted), AS##_ANSWER(answer)
 #define TAKES_pt_compute(AS) \
     AS##_NUMBER(rule), AS##_NUMBER(settings), AS##_MAPPING(mapping), AS##_LENT(parent), AS##_LENT(creator), AS##_LENT(by_default), \
     AS##_LENT(types), AS##_LENT(owner), AS##_LENT(group), AS##_CHANGED(out), AS##_ANSWER(answer)
@@ -34,6 +37,8 @@
 #define CALLS(GIVING, SILENT) \
     GIVING(uint32_t, pt_identity) \
     SILENT(pt_read) \
+    SILENT(pt_step) \
+    SILENT(pt_may_open) \
     SILENT(pt_compute) \
     GIVING(size_t, pt_room) \
     SILENT(pt_start) \

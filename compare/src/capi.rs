@@ -1,5 +1,6 @@
 //! The calls of the C library, wrapped so that what is lent is watched.
 
+pub mod access;
 pub mod lending;
 pub mod script;
 pub mod tree;

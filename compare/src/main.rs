@@ -1,5 +1,6 @@
 //! Compares the C library with the second program, layer by layer.
 
+mod access;
 mod capi;
 mod compute;
 mod deep;
@@ -16,7 +17,7 @@ use std::process::ExitCode;
 
 use report::Report;
 
-const USAGE: &str = "usage: compare list|compute|tree|deep|script --cases N --seed S
+const USAGE: &str = "usage: compare list|compute|tree|deep|script|access --cases N --seed S
        compare program PATH --cases N --seed S
        compare repeat library|second WHAT TIMES     (bench/run names what)";
 
@@ -101,6 +102,7 @@ fn layer_by_name(name: &str) -> Option<fn(usize, u64) -> Report> {
         "tree" => Some(tree::compare),
         "deep" => Some(deep::compare),
         "script" => Some(script::compare),
+        "access" => Some(access::compare),
         _ => None,
     }
 }

@@ -1,6 +1,7 @@
 //! The same call many times over, so that its instructions can be counted and
 //! its time taken. bench/run makes a table of both.
 
+mod access;
 mod computing;
 mod lists;
 mod playing;
@@ -33,7 +34,7 @@ pub trait Repeated {
 /// brought back in between.
 fn at_a_time(what: &str) -> usize {
     match what.split_once('_') {
-        Some(("read" | "compute", _)) => 1_000,
+        Some(("read" | "compute" | "may" | "step", _)) => 1_000,
         _ => 1,
     }
 }
@@ -72,7 +73,7 @@ fn measured_calls(repeated: &mut dyn Repeated, calls: usize) {
 }
 
 /// On `read_N`, `read_spare_N`, `compute_N`, `compute_spare_N`, `set_list_N`,
-/// `undo_N`, `full_tree` and `play_N`.
+/// `undo_N`, `full_tree`, `play_N`, `may_open_16`, `may_open_100` and `step_N`.
 fn repeated(side: Side, what: &str) -> Option<Box<dyn Repeated>> {
     if what == "full_tree" {
         return Some(Box::new(tree::mark_on_the_full_tree(side)));
@@ -91,8 +92,23 @@ fn repeated(side: Side, what: &str) -> Option<Box<dyn Repeated>> {
         "set_list" => Box::new(tree::set_list(side, number)),
         "undo" => Box::new(tree::undo(side, number)),
         "play" => Box::new(playing::Playing::of_records(side, number)),
+        "may_open" => Box::new(access::Opening::of_entries(
+            side,
+            number,
+            held_with(number)?,
+        )),
+        "step" => Box::new(access::Stepping::of_entries(side, number)),
         _ => return None,
     })
+}
+
+/// How many SIDs are held with a list of so many entries.
+fn held_with(entries: usize) -> Option<usize> {
+    match entries {
+        16 => Some(8),
+        100 => Some(32),
+        _ => None,
+    }
 }
 
 /// Both accept the call and leave the same.

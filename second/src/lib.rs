@@ -1,8 +1,10 @@
 //! The independent second program: reads and refuses access lists and
 //! identities, computes a new object's list, keeps a tree of objects with undo
-//! and plays scripts, by document 01. It shares nothing with the verified code.
+//! and plays scripts, by document 01; says who may open and walks a list, by
+//! document 02. It shares nothing with the verified code.
 #![forbid(unsafe_code)]
 
+pub mod access;
 pub mod ace;
 pub mod answer;
 pub mod cases;

@@ -15,6 +15,7 @@ const USAGE: &str = "usage:
   second cases inherit          write the stored cases for the computation
   second cases tree             write the stored calls on a tree
   second cases script           write the stored scripts
+  second cases access           write the stored questions who may open, and steps through lists
   second sample EVERY           write one of so many cases of the case file on standard input
   second answer                 answer the case file on standard input
   second check-examples FILE    compare with the answers written by hand
@@ -36,6 +37,7 @@ fn main() -> ExitCode {
         ["cases", "inherit"] => write_cases(&cases::inherit::all()),
         ["cases", "tree"] => write_cases(&cases::tree::all()),
         ["cases", "script"] => write_cases(&cases::script::all()),
+        ["cases", "access"] => write_cases(&cases::access::all()),
         ["sample", every] => sample(every),
         ["answer"] => answer(),
         ["check-examples", path] => check_examples(path),

@@ -2,14 +2,17 @@
 
 pub mod calls;
 mod computation;
+mod opening;
 mod playing;
 
+use crate::access::Question;
 use crate::computing::Request;
 use crate::hex;
 use crate::identity::{self, Identity, LONGEST};
 use crate::reading;
 use crate::tree::{Call, Player};
 pub use computation::{LONGEST_OTHER, LONGEST_ROOM, fresh_room};
+pub use opening::LONGEST_HELD;
 pub use playing::LONGEST_SCRIPT;
 
 const KIND_READ: u8 = 1;
@@ -25,6 +28,8 @@ pub enum Case {
     Compute { request: Request, room: usize },
     Tree(Call),
     Play { script: Vec<u8>, out_length: u16 },
+    MayOpen(Question),
+    Step { list: Vec<u8>, place: u32 },
 }
 
 impl Case {
@@ -40,6 +45,8 @@ impl Case {
             Case::Compute { request, room } => return computation::encode(request, *room, out),
             Case::Tree(call) => return calls::encode(call, out),
             Case::Play { script, out_length } => return playing::encode(script, *out_length, out),
+            Case::MayOpen(question) => return opening::encode(question, out),
+            Case::Step { list, place } => return opening::encode_step(list, *place, out),
         };
         out.extend_from_slice(&[kind, 0]);
         out.extend_from_slice(&row_length.to_le_bytes());
@@ -80,6 +87,8 @@ fn decode(file: &[u8]) -> Result<(Case, &[u8]), &'static str> {
         Some(&KIND_COMPUTE) => return computation::decode(file),
         Some(kind) if calls::KINDS.contains(kind) => return calls::decode(file),
         Some(&playing::KIND) => return playing::decode(file),
+        Some(&opening::MAY_OPEN) => return opening::decode(file),
+        Some(&opening::STEP) => return opening::decode_step(file),
         _ => {}
     }
     let (head, rest) = file.split_first_chunk::<8>().ok_or("cut head")?;
@@ -134,6 +143,8 @@ fn answer_line(case: &Case, player: &mut Player) -> String {
         Case::Compute { request, room } => computation::line(request, *room),
         Case::Tree(call) => calls::line(call, &player.play(call)),
         Case::Play { script, out_length } => playing::lines(script, *out_length),
+        Case::MayOpen(question) => opening::line(question),
+        Case::Step { list, place } => opening::step_line(list, *place),
     }
 }
 
@@ -189,6 +200,10 @@ mod tests {
                 out_length: 0,
             },
             Case::Tree(Call::Undo),
+            Case::Step {
+                list: vec![],
+                place: 0,
+            },
             Case::read(0, vec![]),
         ];
         let file = encode_all(&cases);

@@ -2,6 +2,7 @@
 
 use std::collections::BTreeMap;
 
+use crate::access::{self, Question};
 use crate::computing::{self, Request, WhichList};
 use crate::identity;
 use crate::list::spare_bytes;
@@ -25,8 +26,13 @@ impl Tally {
             } else {
                 tally.add(label(case, &mut player));
             }
-            if let Case::Compute { request, room } = case {
-                tally.add_spare_bytes(request, *room);
+            match case {
+                Case::Compute { request, room } => tally.add_spare_bytes(request, *room),
+                Case::MayOpen(question) => tally.add_spare_bytes_of_question(question),
+                Case::Step { list, .. } if spare_bytes(list) > 0 => {
+                    tally.add("step 0  spare bytes".to_string());
+                }
+                _ => {}
             }
         }
         tally
@@ -62,6 +68,15 @@ impl Tally {
         }
     }
 
+    /// Where there is a list that has them, and the question is answered.
+    fn add_spare_bytes_of_question(&mut self, question: &Question) {
+        let list = question.present_list();
+        let has_some = list.is_some_and(|list| spare_bytes(list) > 0);
+        if has_some && access::try_may_open(question).is_ok() {
+            self.add("may open 0  spare bytes".to_string());
+        }
+    }
+
     pub fn count(&self, label: &str) -> usize {
         self.counts.get(label).copied().unwrap_or(0)
     }
@@ -90,6 +105,8 @@ fn label(case: &Case, player: &mut Player) -> String {
         Case::Compute { request, room } => compute_label(request, *room),
         Case::Tree(call) => call_label("tree", call, &player.play(call)),
         Case::Play { .. } => unreachable!("a script is counted record by record"),
+        Case::MayOpen(question) => may_open_label(question),
+        Case::Step { list, place } => step_label(list, *place),
     }
 }
 
@@ -129,5 +146,26 @@ fn compute_label(request: &Request, room: usize) -> String {
     match computing::try_compute(request, &mut fresh_room(room)) {
         Ok(done) => format!("compute 0  {}", done.branch.name()),
         Err(refused) => format!("compute {}  {}", refused.number(), refused.name()),
+    }
+}
+
+fn may_open_label(question: &Question) -> String {
+    match access::try_may_open(question) {
+        Ok(verdict) => format!("may open 0  {}", verdict.name()),
+        Err(refused) => {
+            let number = refused.answer().number;
+            format!("may open {number}  {}", refused.name())
+        }
+    }
+}
+
+fn step_label(list: &[u8], place: u32) -> String {
+    match access::try_step(list, place) {
+        Ok(Some(_)) => "step 0  to an entry".to_string(),
+        Ok(None) => "step 0  none left".to_string(),
+        Err(refusal) => {
+            let fault = refusal.fault;
+            format!("step {}  {}", fault.number(), fault.name())
+        }
     }
 }

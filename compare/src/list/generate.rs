@@ -32,7 +32,7 @@ pub fn subject(random: &mut Random) -> Subject {
 }
 
 /// A list with the count it was made for.
-fn list(random: &mut Random) -> (Vec<u8>, usize) {
+pub fn list(random: &mut Random) -> (Vec<u8>, usize) {
     if random.chance(1, 1_500) {
         return long_list(random);
     }

@@ -1,6 +1,6 @@
 //! Reading lists and identities.
 
-mod generate;
+pub mod generate;
 
 use crate::capi::{self, WhenEmpty};
 use crate::floors;

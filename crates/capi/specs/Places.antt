@@ -5,8 +5,10 @@ use mathlib.Core.List.{List, [], _∷_}
 use mathlib.Core.Bool.{Bool, not}
 use lib.ListN.{length, getD}
 use lib.Dec.{eqb}
+use Rattle.list.specs.List.{lent}
+use Rattle.list.specs.Bytes.{has}
 use Rattle.list.specs.Answer.{Values}
-use Rattle.inherit.specs.Asked.{Asked, has, lent}
+use Rattle.inherit.specs.Asked.{Asked}
 use Rattle.inherit.specs.Compute.{computeOf, outOf}
 use Rattle.inherit.specs.declared.Settings.{Settings}
 use Rattle.inherit.specs.declared.Mapping.{Mapping}

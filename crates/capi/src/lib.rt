@@ -1,12 +1,11 @@
 // The C library (include/pipeteasel.h): thin calls, one for each public call of the layers, and nothing else.
 ghost use mathlib.Core.Path.{_≡_};
 ghost use lib.ListN.{length};
+ghost use Rattle.list.specs.Bytes.{has as Given·has};
 ghost use Rattle.list.specs.Identity.{identityOf};
 ghost use Rattle.list.specs.Entry.{access};
-ghost use Rattle.list.specs.List.{readOf, rowBy};
+ghost use Rattle.list.specs.List.{readOf, rowBy, lent};
 ghost use Rattle.list.specs.Answer.{readValues};
-ghost use Rattle.inherit.specs.Asked.{has as Given·has};
-ghost use Rattle.inherit.specs.Asked.{lent};
 ghost use Rattle.inherit.specs.Compute.{askedBy};
 ghost use Rattle.tree.specs.Held.{yes};
 ghost use Rattle.tree.specs.Room.{roomOf};

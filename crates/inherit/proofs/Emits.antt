@@ -7,6 +7,7 @@ use native.Mathlib.Nat.{not-suc-le-zero}
 use native.Mathlib.Omega.{arith}
 use lib.ListN.{length, set, take, drop, length-append}
 use lib.Dec.{eqb}
+use Rattle.list.specs.Bytes.{has, among}
 use Rattle.list.specs.Identity.{placeholderOf}
 use Rattle.list.specs.Entry.{access, objectKind, kindOf, flagsOf, sizeOf, wordOf, sidAt, middleOf, sidOf, tailOf}
 use Rattle.list.specs.List.{cut}
@@ -16,12 +17,11 @@ use Rattle.list.proofs.Remade.{bounds, set-flags, set-kind, set-mask, set-middl
 use Rattle.list.proofs.Remade.{cut-same, cut-middle, cut-sid, cut-tail, cut-length, cut-guid}
 use Rattle.inherit.specs.declared.copies.Pass.{Pass}
 use Rattle.inherit.specs.declared.copies.Pass.the-variants.{First, Second, Own, All}
-use Rattle.inherit.specs.Asked.{Given, has}
-use Rattle.inherit.specs.Copies.{among, typeApplies, takesFirst, takesSecond}
+use Rattle.inherit.specs.Asked.{Given}
+use Rattle.inherit.specs.Copies.{typeApplies, takesFirst, takesSecond}
 use Rattle.inherit.specs.Last.{inPlace, resolved}
 use Rattle.inherit.specs.Compute.{anyObject}
 use Rattle.inherit.specs.Inner.Emit.{takesBy, flagsBy, copyOf, emitOf, emitAll, measureOf, both}
-use Rattle.inherit.proofs.Flags.{odd}
 
 -- the last step over an entry with new flags is a copy with these flags
 pub resolved-set : (g : Given) (t : List ℕ) (v : ℕ) → 1 < length t → resolved g (set t 1 v) ≡ copyOf g v t
@@ -52,7 +52,7 @@ module _ (g : Given) (rev : ℕ) (t : List ℕ) (s : Sound access rev t) where
       let c = cut-same access rev t s in
       rw (c .word, c .kind)
       (typed (objectKind (kindOf t)) (has 1 (wordOf t)) _ _
-      (λ o w. ap (λ (x : List ℕ). among x (g .types)) (cut-guid access rev t s (typed-long access rev t s o (odd (wordOf t) (s .word) w)))))
+      (λ o w. ap (λ (x : List ℕ). among x (g .types)) (cut-guid access rev t s (typed-long access rev t s o w))))
 
   takes-in : (p : Pass) → takesBy g p (take (sizeOf t) t) ≡ takesBy g p t
   unfolding takesBy takesFirst takesSecond

@@ -1,15 +1,15 @@
 -- Facts about flags: each is one test, computed at all values below 32 at once.
-use mathlib.Core.Path.{_≡_, refl, ap}
+use mathlib.Core.Path.{_≡_, refl}
 use mathlib.Core.Bool.{Bool, true, false, not, _&&_, _||_}
-use Prim.Native.Nat.{ℕ, zero, suc, _%_, _≤_, _<_}
+use Prim.Native.Nat.{ℕ, zero, suc, _≤_, _<_}
 use native.Mathlib.Nat.{not-suc-le-zero}
 use native.Mathlib.Decide.{ℕ-discrete}
 use native.Mathlib.Omega.{arith}
-use lib.Dec.{eqb, leb}
+use lib.Dec.{leb}
 use lib.Bits.{bitOr}
-use borrow.Author.Tests.{leb-true, eqb-true, not-true}
+use borrow.Author.Tests.{leb-true, not-true}
+use Rattle.list.specs.Bytes.{has}
 use Rattle.list.proofs.Tests.{both-true}
-use Rattle.inherit.specs.Asked.{has}
 use Rattle.inherit.specs.Copies.{keptFlags}
 use Rattle.inherit.specs.Inner.Emit.{flagsBy}
 use Rattle.inherit.specs.declared.copies.Pass.{Pass}
@@ -58,10 +58,3 @@ by-le First x h = omega arith
 by-le Second x h = inherited-le x h
 by-le Own x h = h
 by-le All x h = h
-
--- an object word that announces an ObjectType is odd
-pub odd : (w : ℕ) → w ≤ 3 → has 1 w ≡ true → w % 2 ≡ 1
-unfolding allBelow
-odd w h e =
-    eqb-true (w % 2) 1
-    (other (not (has 1 w)) (eqb (w % 2) 1) (below 4 (λ n. not (has 1 n) || eqb (n % 2) 1) refl w (omega arith)) (ap not e))

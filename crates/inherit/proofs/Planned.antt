@@ -9,6 +9,8 @@ use lib.ListN.{length, set}
 use lib.Seq.{set-getD}
 use lib.Dec.{eqb}
 use lib.Bits.{bitOr}
+use Rattle.list.specs.Bytes.{has}
+use Rattle.list.specs.List.{MaybeList, lent}
 use Rattle.list.specs.Entry.{access, flagsOf}
 use Rattle.list.specs.Good.{Whole, Every}
 use Rattle.list.proofs.Remade.{set-flags}
@@ -19,7 +21,7 @@ use Rattle.inherit.specs.declared.branch.Plan.{Plan}
 use Rattle.inherit.specs.declared.copies.Pass.{Pass}
 use Rattle.inherit.specs.declared.copies.Pass.the-variants.{First, Second, Own, All}
 use Rattle.inherit.specs.Inner.Source.{given}
-use Rattle.inherit.specs.Asked.{Asked, Given, MaybeList, givenIn, lent, entriesIf, has}
+use Rattle.inherit.specs.Asked.{Asked, Given, givenIn, entriesIf}
 use Rattle.inherit.specs.Copies.{anyHeritable, pass, keptFlags, takesFirst, takesSecond, firstPart, secondPart, fromParent, ownEntries, fromCreator}
 use Rattle.inherit.specs.Last.{resolved, passesFilter, lastOf, lastStep}
 use Rattle.inherit.specs.Branch.{Result, holds, inheritedBit, withCreator, fromDefault, branch, resultOf}

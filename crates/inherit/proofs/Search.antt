@@ -7,12 +7,12 @@ use native.Mathlib.Nat.{not-suc-le-zero}
 use native.Mathlib.Numerals.{sub-one}
 use lib.ListN.{drop}
 use lib.Seq.{drop-drop}
+use Rattle.list.specs.Bytes.{has}
 use Rattle.list.specs.Entry.{access, sizeOf}
 use Rattle.list.specs.List.{cut}
 use Rattle.list.specs.Good.{Sound, Passes}
 use Rattle.list.proofs.Remade.{cut-same}
 use Rattle.list.proofs.Rows.{passes-turn}
-use Rattle.inherit.specs.Asked.{has}
 use Rattle.inherit.specs.Copies.{heritable, anyHeritable}
 
 -- one entry, and those after it

@@ -7,7 +7,7 @@ use Prim.Native.Nat.{ℕ}
 use native.Mathlib.Omega.{arith}
 use lib.ListN.{drop}
 use Rattle.list.specs.Entry.{access}
-use Rattle.list.specs.List.{cut, revOf, checkOf}
+use Rattle.list.specs.List.{cut, revOf, checkOf, MaybeList, lent}
 use Rattle.list.specs.Good.{Whole, Passes, Every}
 use Rattle.list.specs.declared.lists.Reading.{Reading}
 use Rattle.list.specs.declared.lists.Reading.the-variants.{Done, Refused as Unread}
@@ -16,7 +16,7 @@ use Rattle.list.proofs.Told.{told}
 use Rattle.list.proofs.Parts.{laid, cut-none, entries-are}
 use Rattle.inherit.specs.declared.tests.Source.{Source}
 use Rattle.list.specs.Answer.{Values, refused}
-use Rattle.inherit.specs.Asked.{MaybeList, lent, entriesIf}
+use Rattle.inherit.specs.Asked.{entriesIf}
 use Rattle.inherit.specs.Compute.{onReading, readable}
 use Rattle.inherit.specs.Inner.Source.{sourceBy, sourceOf, Found}
 

@@ -7,13 +7,13 @@ use Prim.Native.Nat.{ℕ}
 use lib.ListN.{length}
 use Rattle.list.specs.Bytes.{Bytes, le, spell}
 use Rattle.list.specs.Entry.{Family, access}
-use Rattle.list.specs.List.{entriesOf, checkOf, headerOk, revOk, walkOf, finish}
+use Rattle.list.specs.List.{entriesOf, checkOf, headerOk, revOk, walkOf, finish, MaybeList}
 use Rattle.list.specs.Answer.{Values}
 use Rattle.list.specs.Spare.{withSpare, bareBy, Sized}
 use Rattle.list.specs.declared.lists.Reading.{Reading}
 use Rattle.list.specs.declared.lists.Reading.the-variants.{Done, Refused}
 use Rattle.list.proofs.Spare.{bareReading, bytes-sized, bare-reads, bare-entries}
-use Rattle.inherit.specs.Asked.{Asked, MaybeList, givenIn, entriesIf}
+use Rattle.inherit.specs.Asked.{Asked, givenIn, entriesIf}
 use Rattle.inherit.specs.Copies.{anyHeritable, ownEntries}
 use Rattle.inherit.specs.Last.{lastStep}
 use Rattle.inherit.specs.Branch.{Result, holds, withCreator, fromDefault, branch, resultOf}

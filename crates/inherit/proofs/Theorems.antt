@@ -12,7 +12,7 @@ use lib.Dec.{leb}
 use borrow.Author.Tests.{leb-true}
 use Rattle.list.specs.Identity.{placeholderOf}
 use Rattle.list.specs.Entry.{access, sidOf}
-use Rattle.list.specs.List.{entriesOf, render, checkOf}
+use Rattle.list.specs.List.{entriesOf, render, checkOf, MaybeList}
 use Rattle.list.specs.Good.{Whole, Listed, Every}
 use Rattle.list.specs.declared.lists.Reading.the-variants.{Done}
 use Rattle.list.proofs.Tests.{both-true, true-or, eq-or}
@@ -20,7 +20,7 @@ use Rattle.list.proofs.Told.{reads}
 use Rattle.list.proofs.Parts.{rendered, length-render}
 use Rattle.list.proofs.Revisions.{rev-known}
 use Rattle.list.specs.Answer.{Values, done, refused}
-use Rattle.inherit.specs.Asked.{Asked, MaybeList, givenIn, entriesIf, typesOk}
+use Rattle.inherit.specs.Asked.{Asked, givenIn, entriesIf, typesOk}
 use Rattle.inherit.specs.Copies.{anyHeritable, ownEntries}
 use Rattle.inherit.specs.Last.{lastStep}
 use Rattle.inherit.specs.Branch.{Result, absent, holds, fromDefault, branch, resultOf}

@@ -5,16 +5,16 @@ use mathlib.Core.List.{List, [], _∷_, _++_, map, flatten}
 use mathlib.Core.Option.{none, some}
 use Prim.Native.Nat.{ℕ, _-_}
 use lib.ListN.{length, replicate}
-use Rattle.list.specs.Bytes.{le, spell, sameBytes, guidAt}
+use Rattle.list.specs.Bytes.{le, spell, sameBytes, guidAt, among}
 use Rattle.list.specs.Identity.{sidLen, isSid, creator, placeholderOf, identityOf}
 use Rattle.list.specs.Order.{need}
 use Rattle.list.specs.Entry.{plainOf, objectOf, objectKind, kindOk, flagsOk, headOf, wordAfter, entryBytes, tailOk, entryOf}
-use Rattle.list.specs.List.{revOk, headerOk, cut, entriesOf, headBytes, render, onGood, walkOf, finish, checkOf}
+use Rattle.list.specs.List.{revOk, headerOk, cut, entriesOf, headBytes, render, onGood, walkOf, finish, checkOf, MaybeList, lent}
 use Rattle.list.specs.Answer.{Values, done, refused}
 use Rattle.inherit.specs.declared.Mapping.{Mapping}
 use Rattle.inherit.specs.declared.Computed.the-variants.{Present, Absent, Refused}
-use Rattle.inherit.specs.Asked.{Asked, MaybeList, lent, entriesIf, typesOk, typesOf}
-use Rattle.inherit.specs.Copies.{anyHeritable, among, typeApplies, pass, keptFlags, takesFirst, firstPart, takesSecond, secondPart, fromParent, ownEntries, fromCreator}
+use Rattle.inherit.specs.Asked.{Asked, entriesIf, typesOk, typesOf}
+use Rattle.inherit.specs.Copies.{anyHeritable, typeApplies, pass, keptFlags, takesFirst, firstPart, takesSecond, secondPart, fromParent, ownEntries, fromCreator}
 use Rattle.inherit.specs.Last.{inPlace, mapped, resolved, lastOf, lastStep}
 use Rattle.inherit.specs.Branch.{holds, inheritedBit, withCreator, fromDefault, branch, resultOf}
 use Rattle.inherit.specs.Compute.{anyObject, withRoom, onReading, readable, ruleOk, computeOf, bytesFor, written, outOf, askedBy, computedValues, isRefusal}

@@ -1,26 +1,13 @@
 -- What a computation is asked (RULES 2.1).
 use Prim.Native.Nat.{ℕ, _%_, _/_}
 use mathlib.Core.List.{List, [], _∷_}
-use mathlib.Core.Bool.{Bool, true, false, not, cond, _&&_}
-use mathlib.Core.Option.{Option, none, some}
+use mathlib.Core.Bool.{Bool, _&&_}
+use mathlib.Core.Option.{none, some}
 use lib.ListN.{length, take}
 use lib.Dec.{eqb, leb}
-use lib.Bits.{bitAnd}
 use Rattle.list.specs.Bytes.{guidAt}
-use Rattle.list.specs.List.{entriesOf}
+use Rattle.list.specs.List.{entriesOf, MaybeList}
 use Rattle.inherit.specs.declared.Mapping.{Mapping}
-
--- a bit of `bit` is set in n
-abbrev pub has : ℕ → ℕ → Bool
-has bit n = not (eqb (bitAnd n bit) 0)
-
--- a list's bytes, or none where it is absent
-abbrev pub MaybeList : Type 0
-MaybeList = Option (List ℕ)
-
--- bytes that are a list where one is given
-abbrev pub lent : Bool → List ℕ → MaybeList
-lent given s = cond given (some s) none
 
 -- an absent list has no entries
 unfoldable pub entriesIf : MaybeList → List (List ℕ)

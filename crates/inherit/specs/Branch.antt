@@ -4,8 +4,9 @@ use mathlib.Core.List.{List, [], _++_}
 use mathlib.Core.Bool.{Bool, true, false, not, cond, _&&_}
 use mathlib.Core.Option.{none, some}
 use lib.Dec.{eqb}
+use Rattle.list.specs.List.{MaybeList}
 use Rattle.list.specs.Entry.{Family, access}
-use Rattle.inherit.specs.Asked.{Asked, Given, MaybeList, givenIn, entriesIf}
+use Rattle.inherit.specs.Asked.{Asked, Given, givenIn, entriesIf}
 use Rattle.inherit.specs.Copies.{anyHeritable, fromParent, ownEntries, fromCreator}
 use Rattle.inherit.specs.Last.{lastStep}
 

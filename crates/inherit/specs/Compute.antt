@@ -10,7 +10,7 @@ use Rattle.list.specs.Bytes.{front}
 use Rattle.list.specs.Order.{need}
 use Rattle.list.specs.Identity.{identityOf}
 use Rattle.list.specs.Entry.{access, objectKind, kindOf}
-use Rattle.list.specs.List.{render, checkOf}
+use Rattle.list.specs.List.{render, checkOf, MaybeList, lent}
 use Rattle.list.specs.Answer.{Values, done, refused}
 use Rattle.list.specs.declared.lists.Reading.{Reading}
 use Rattle.list.specs.declared.lists.Reading.the-variants.{Done as Read, Refused as Unread}
@@ -18,7 +18,7 @@ use Rattle.inherit.specs.declared.Settings.{Settings}
 use Rattle.inherit.specs.declared.Mapping.{Mapping}
 use Rattle.inherit.specs.declared.Computed.{Computed}
 use Rattle.inherit.specs.declared.Computed.the-variants.{Present, Absent, Refused}
-use Rattle.inherit.specs.Asked.{Asked, MaybeList, lent, typesOk}
+use Rattle.inherit.specs.Asked.{Asked, typesOk}
 use Rattle.inherit.specs.Branch.{Result, absent, holds, resultOf}
 
 -- an object entry is among them

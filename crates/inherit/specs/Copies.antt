@@ -4,9 +4,9 @@ use mathlib.Core.List.{List, [], _∷_, _++_}
 use mathlib.Core.Bool.{Bool, true, false, not, cond, _&&_, _||_}
 use lib.ListN.{set}
 use lib.Bits.{bitOr}
-use Rattle.list.specs.Bytes.{sameBytes, guidAt}
+use Rattle.list.specs.Bytes.{guidAt, has, among}
 use Rattle.list.specs.Entry.{Family, access, objectKind, kindOf, flagsOf, wordOf}
-use Rattle.inherit.specs.Asked.{Given, has}
+use Rattle.inherit.specs.Asked.{Given}
 
 -- OI or CI is set
 abbrev pub heritable : List ℕ → Bool
@@ -15,11 +15,6 @@ heritable e = has 0x03 (flagsOf e)
 unfoldable pub anyHeritable : List (List ℕ) → Bool
 anyHeritable [] = false
 anyHeritable (e ∷ es) = heritable e || anyHeritable es
-
--- a GUID is among the object types
-unfoldable pub among : List ℕ → List (List ℕ) → Bool
-among g [] = false
-among g (t ∷ ts) = sameBytes t g || among g ts
 
 -- types 00 and 01 always; types 05 and 06 if the entry has an ObjectType that is among the object types
 unfoldable pub typeApplies : Given → List ℕ → Bool

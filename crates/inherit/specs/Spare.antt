@@ -5,10 +5,10 @@ use mathlib.Core.List.{List}
 use mathlib.Core.Option.{none, some}
 use lib.ListN.{length}
 use Rattle.list.specs.Entry.{access}
-use Rattle.list.specs.List.{countOf, checkOf}
+use Rattle.list.specs.List.{countOf, checkOf, MaybeList}
 use Rattle.list.specs.declared.lists.Reading.the-variants.{Done}
 use Rattle.list.specs.Spare.{bare}
-use Rattle.inherit.specs.Asked.{Asked, MaybeList}
+use Rattle.inherit.specs.Asked.{Asked}
 
 unfoldable pub bareIf : MaybeList → MaybeList
 bareIf none = none

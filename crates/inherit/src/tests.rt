@@ -2,8 +2,8 @@
 ghost use mathlib.Core.Path.{_≡_};
 ghost use Prim.Native.Nat.{_≤_, _<_};
 ghost use lib.ListN.{length};
-ghost use Rattle.list.specs.List.{revOf};
-ghost use Rattle.inherit.specs.Asked.{lent, typesOk, fourOf};
+ghost use Rattle.list.specs.List.{revOf, lent};
+ghost use Rattle.inherit.specs.Asked.{typesOk, fourOf};
 ghost use Rattle.inherit.specs.Compute.{ruleOk, ordinary as Compute·ordinary};
 ghost use Rattle.inherit.specs.Inner.Source.{sourceOf};
 use list::Reading;

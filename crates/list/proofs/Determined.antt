@@ -19,6 +19,8 @@ use Rattle.list.proofs.identities.guid_at.Kinds as guid-at
 use Rattle.list.proofs.identities.guid_at.Reads as guid-at-reads
 use Rattle.list.proofs.identities.same_guid.Kinds as same-guid
 use Rattle.list.proofs.identities.same_guid.Reads as same-guid-reads
+use Rattle.list.proofs.identities.sid_in.Kinds as sid-in
+use Rattle.list.proofs.identities.sid_in.Reads as sid-in-reads
 use Rattle.list.proofs.numbers.byte_in.Kinds as byte-in
 use Rattle.list.proofs.numbers.byte_in.Reads as byte-in-reads
 use Rattle.list.proofs.numbers.half_in.Kinds as half-in
@@ -27,6 +29,8 @@ use Rattle.list.proofs.numbers.word_in.Kinds as word-in
 use Rattle.list.proofs.numbers.word_in.Reads as word-in-reads
 use Rattle.list.proofs.numbers.part_of.Kinds as part-of
 use Rattle.list.proofs.numbers.part_of.Reads as part-of-reads
+use Rattle.list.proofs.numbers.same_bytes.Kinds as same-bytes
+use Rattle.list.proofs.numbers.same_bytes.Reads as same-bytes-reads
 use Rattle.list.proofs.numbers.put.Kinds as put
 use Rattle.list.proofs.numbers.put.Reads as put-reads
 use Rattle.list.proofs.entries.is_object.Kinds as is-object
@@ -62,6 +66,9 @@ guid-at-determined κs a x y s t p q = p ∙ sym q
 pub same-guid-determined : OneResult 0 same-guid.ps same-guid.r same-guid-reads.Learnt
 same-guid-determined κs a x y s t p q = p ∙ sym q
 
+pub sid-in-determined : OneResult 1 sid-in.ps sid-in.r sid-in-reads.Learnt
+sid-in-determined κs a x y s t p q = p ∙ sym q
+
 pub byte-in-determined : OneResult 1 byte-in.ps byte-in.r byte-in-reads.Learnt
 byte-in-determined κs a x y s t p q = p ∙ sym q
 
@@ -70,6 +77,9 @@ half-in-determined κs a x y s t p q = p ∙ sym q
 
 pub word-in-determined : OneResult 1 word-in.ps word-in.r word-in-reads.Learnt
 word-in-determined κs a x y s t p q = p ∙ sym q
+
+pub same-bytes-determined : OneResult 2 same-bytes.ps same-bytes.r same-bytes-reads.Learnt
+same-bytes-determined κs a x y s t p q = p ∙ sym q
 
 -- the bytes of the part
 pub part-of-determined : Determines 1 part-of.ps part-of.r (λ κs x y s t. now x ≡ now y) part-of-reads.Learnt

@@ -2,6 +2,7 @@ pub mod Little
 pub mod Writes
 pub mod Places
 pub mod Tests
+pub mod Bits
 pub mod Sids
 pub mod Cases
 pub mod Walks

@@ -27,6 +27,11 @@ le-suc k (b ∷ s) = refl
 pub le-at : (k : ℕ) (s : List ℕ) (at : ℕ) → le (suc k) (drop at s) ≡ getD s at 0 + 256 * le k (drop (at + 1) s)
 le-at k s at = rw (le-suc, getD-drop, add-zero, drop-drop)
 
+-- one byte is its own number
+pub le-one : (s : List ℕ) (at : ℕ) → le 1 (drop at s) ≡ getD s at 0
+unfolding le
+le-one s at = le-at 0 s at ∙ omega arith
+
 -- split: a number of j + k bytes is its low j bytes and its high k
 pub le-add : (j k : ℕ) (s : List ℕ) → le (j + k) s ≡ le j s + 256 ^ j * le k (drop j s)
 unfolding le

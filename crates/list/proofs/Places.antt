@@ -20,6 +20,11 @@ pub length-part : (a n : ℕ) (l : List ℕ) → a + n ≤ length l → length (
 unfolding part
 length-part a n l h = length-take-le n (drop a l) (simp length-drop (omega arith))
 
+-- a part at the front
+pub part-first : (n : ℕ) (l : List ℕ) → part 0 n l ≡ take n l
+unfolding part
+part-first n l = refl
+
 pub part-most : (a n : ℕ) (l : List ℕ) → length (part a n l) ≤ n
 unfolding part
 part-most a n l = simp length-take (omega arith)

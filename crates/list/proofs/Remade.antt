@@ -8,12 +8,13 @@ use lib.ListN.{length, take, drop, set, length-append, length-drop, take-append-
 use lib.Seq.{length-take-le, take-append-le, drop-append-le, take-at, drop-at, drop-drop, drop-set-lt, getD-set-same, getD-set-other}
 use lib.Dec.{eqb}
 use borrow.Author.Tests.{eqb-true, eq-eqb, le-leb}
-use Rattle.list.specs.Bytes.{le, spell, guidAt}
+use Rattle.list.specs.Bytes.{has, le, spell, guidAt}
 use Rattle.list.specs.Identity.{sidLen}
 use Rattle.list.specs.Entry.{Family, flagsOk, tailOk, EntryParts, entryBytes, kindOf, sizeOf, flagsOf, maskOf, objectKind, headOf, wordAfter, wordOf}
 use Rattle.list.specs.Entry.{guidsOf, sidAt, sidLenOf, sidEnd, middleOf, sidOf, tailOf}
 use Rattle.list.specs.Good.{Sound, Whole, Bounds}
 use Rattle.list.proofs.Little.{le-append, le-spell, length-spell}
+use Rattle.list.proofs.Bits.{odd}
 use Rattle.list.proofs.Sids.{OneSid, sid-length, sid-append}
 use Rattle.list.proofs.Pieces.{Same, joined, split, head-ge}
 
@@ -159,8 +160,8 @@ module _ (f : Family) (rev : ℕ) (t : List ℕ) (s : Sound f rev t) where
       (part-cut 16 12 (sizeOf t) t (omega arith) (s .within))
 
 -- an object entry that announces an ObjectType is long enough to hold it
-pub typed-long : (f : Family) (rev : ℕ) (t : List ℕ) → Sound f rev t → objectKind (kindOf t) ≡ true → wordOf t % 2 ≡ 1 → 28 ≤ sizeOf t
-typed-long f rev t s o w = omega (arith, object-head (kindOf t) o, s .eight)
+pub typed-long : (f : Family) (rev : ℕ) (t : List ℕ) → Sound f rev t → objectKind (kindOf t) ≡ true → has 1 (wordOf t) ≡ true → 28 ≤ sizeOf t
+typed-long f rev t s o w = omega (arith, object-head (kindOf t) o, odd (wordOf t) w, s .eight)
 
 -- bytes made of parts have these parts (the size and the mask where they fit their fields)
 module _ (p : EntryParts) where

@@ -1,20 +1,20 @@
 -- Laws of identities and of equal bytes.
 use mathlib.Core.Path.{_≡_, refl, sym, ap, ap₂, _∙_}
-use mathlib.Core.Bool.{Bool, true, false, cond, _&&_}
+use mathlib.Core.Bool.{Bool, true, false, cond, _&&_, and-assoc, and-true, and-false}
 use mathlib.Core.List.{List, [], _∷_, _++_}
-use Prim.Native.Nat.{ℕ, _+_, _*_, _≤_, _<_}
-use native.Mathlib.Numerals.{add-one}
+use Prim.Native.Nat.{ℕ, _+_, _-_, _*_, _≤_, _<_}
 use native.Mathlib.Omega.{arith}
-use lib.ListN.{length, take, drop, replicate, getD, length-drop, take-append-drop, List·getD-append}
-use lib.Seq.{take-add, take-at, drop-drop, drop-cons, length-take-le}
+use lib.ListN.{length, take, drop, replicate, getD, length-append, length-drop, take-append-drop, List·getD-append}
+use lib.Seq.{take-add, take-at, length-take-le}
 use lib.Dec.{eqb, leb, ltb}
-use borrow.Author.Tests.{eq-eqb, ne-eqb, lt-ltb, eqb-true, leb-true, ltb-true}
+use borrow.Author.Tests.{eq-eqb, ne-eqb, lt-ltb, le-leb, lt-leb, eqb-true, leb-true, ltb-true}
 use Rattle.list.specs.Bytes.{Bytes, le, sameBytes}
-use Rattle.list.specs.Identity.{sidLen, isSid, creator, placeholderOf, identityOf, bytesOf, madeOf}
+use Rattle.list.specs.Identity.{sidLen, wholeSid, isSid, creator, placeholderOf, identityOf, bytesOf, madeOf}
 use Rattle.list.specs.declared.identities.Made.{Made}
 use Rattle.list.proofs.Tests.{both-true, false-or}
 use Rattle.list.proofs.Writes.{length-front}
-use Rattle.list.proofs.Little.{le-same, le-drop-append, bytes-drop}
+use Rattle.list.proofs.Places.{split}
+use Rattle.list.proofs.Little.{le-append, le-same, bytes-drop}
 
 -- a test that says whether two lists are the same
 pub same-true : (a b : List ℕ) → sameBytes a b ≡ true → a ≡ b
@@ -41,35 +41,45 @@ same-no a b f = false-or (sameBytes a b) (λ h. f (same-true a b h))
 pub same-length : (a b : List ℕ) → (length a ≡ length b → ⊥) → sameBytes a b ≡ false
 same-length a b f = same-no a b (λ e. f (ap length e))
 
--- one more element is compared
-pub same-step : (a b : List ℕ) (i : ℕ) → i < length a → i < length b
-    → sameBytes (drop i a) (drop i b) ≡ (eqb (getD a i 0) (getD b i 0) && sameBytes (drop (i + 1) a) (drop (i + 1) b))
+-- bytes are compared from the last ones on, by numbers of any width
+same-split : (p q r t : List ℕ) → length p ≡ length r → sameBytes (p ++ q) (r ++ t) ≡ (sameBytes p r && sameBytes q t)
 unfolding sameBytes
-same-step a b i ha hb = rw (add-one, drop-cons a i 0, drop-cons b i 0)
+same-split [] q [] t h = refl
+same-split [] q (y ∷ r) t h = absurd (omega arith)
+same-split (x ∷ p) q [] t h = absurd (omega arith)
+same-split (x ∷ p) q (y ∷ r) t h = ap (λ (z : Bool). eqb x y && z) (same-split p q r t (omega arith)) ∙ sym (and-assoc (eqb x y) (sameBytes p r) (sameBytes q t))
 
--- twelve bytes are three words
-module _ (a b : List ℕ) (ha : 12 ≤ length a) (hb : 12 ≤ length b) where
-  word-in : (s : List ℕ) (j : ℕ) → 12 ≤ length s → j + 4 ≤ 12 → le 4 (drop j (take 12 s)) ≡ le 4 (drop j s)
-  word-in s j h p =
-      sym (le-drop-append 4 j (take 12 s) (drop 12 s) (omega (arith, length-take-le 12 s h))) ∙ ap (λ (t : List ℕ). le 4 (drop j t)) (take-append-drop 12 s)
+module _ (k n : ℕ) (a b : List ℕ) (some : k ≤ n) (ha : n ≤ length a) (hb : n ≤ length b) where
+  apart : (s : List ℕ) → take n s ≡ take (n - k) s ++ take k (drop (n - k) s)
+  apart s = let e : n ≡ n - k + k = omega arith in ap (λ (m : ℕ). take m s) e ∙ take-add (n - k) k s
 
-  pub words-differ : (j : ℕ) → j + 4 ≤ 12 → (le 4 (drop j a) ≡ le 4 (drop j b) → ⊥) → sameBytes (take 12 a) (take 12 b) ≡ false
-  words-differ j p f = same-no _ _ (λ e. f (sym (word-in a j ha p) ∙ ap (λ (t : List ℕ). le 4 (drop j t)) e ∙ word-in b j hb p))
+  last-split : sameBytes (take n a) (take n b) ≡ (sameBytes (take (n - k) a) (take (n - k) b) && sameBytes (take k (drop (n - k) a)) (take k (drop (n - k) b)))
+  last-split =
+      ap₂ sameBytes (apart a) (apart b)
+      ∙ same-split (take (n - k) a) _ (take (n - k) b) _ (length-take-le (n - k) a (omega arith) ∙ sym (length-take-le (n - k) b (omega arith)))
 
-  module _ (da : Bytes a) (db : Bytes b) where
-    part : (j : ℕ) → j + 4 ≤ 12 → le 4 (drop j a) ≡ le 4 (drop j b) → take 4 (drop j a) ≡ take 4 (drop j b)
-    part j p e =
-        le-same 4 (drop j a) (drop j b) (omega (arith, length-drop j a)) (omega (arith, length-drop j b)) (bytes-drop j a da) (bytes-drop j b db) e
+  number-in : (s : List ℕ) → n ≤ length s → le k (take k (drop (n - k) s)) ≡ le k (drop (n - k) s)
+  number-in s h =
+      let l : k ≤ length (drop (n - k) s) = omega (arith, length-drop (n - k) s) in
+      sym (le-append k (take k (drop (n - k) s)) (drop k (drop (n - k) s)) (omega (arith, length-take-le k (drop (n - k) s) l)))
+      ∙ ap (le k) (take-append-drop k (drop (n - k) s))
 
-    three : (s : List ℕ) → take 12 s ≡ take 4 s ++ (take 4 (drop 4 s) ++ take 4 (drop 8 s))
-    three s =
-        take-add 4 8 s
-        ∙ ap (λ (u : List ℕ). take 4 s ++ u) (take-add 4 4 (drop 4 s) ∙ ap (λ (u : List ℕ). take 4 (drop 4 s) ++ take 4 u) (drop-drop 4 4 s))
+  -- the last k bytes spell other numbers
+  pub last-differs : (le k (drop (n - k) a) ≡ le k (drop (n - k) b) → ⊥) → sameBytes (take n a) (take n b) ≡ false
+  last-differs f =
+      last-split
+      ∙ rw (same-no (take k (drop (n - k) a)) (take k (drop (n - k) b)) (λ e. f (sym (number-in a ha) ∙ ap (le k) e ∙ number-in b hb)))
+      (and-false (sameBytes (take (n - k) a) (take (n - k) b)))
 
-    pub words-same : le 4 (drop 0 a) ≡ le 4 (drop 0 b) → le 4 (drop 4 a) ≡ le 4 (drop 4 b) → le 4 (drop 8 a) ≡ le 4 (drop 8 b)
-        → sameBytes (take 12 a) (take 12 b) ≡ true
-    words-same e0 e4 e8 =
-        same-yes _ _ (three a ∙ rw (part 0 (omega arith) e0, part 4 (omega arith) e4, part 8 (omega arith) e8) (sym (three b)))
+  -- they spell the same one, so those before them are left to compare
+  pub last-same : Bytes a → Bytes b → le k (drop (n - k) a) ≡ le k (drop (n - k) b)
+      → sameBytes (take n a) (take n b) ≡ sameBytes (take (n - k) a) (take (n - k) b)
+  last-same da db e =
+      let x = drop (n - k) a in
+      let y = drop (n - k) b in
+      let s : take k x ≡ take k y =
+      le-same k x y (omega (arith, length-drop (n - k) a)) (omega (arith, length-drop (n - k) b)) (bytes-drop (n - k) a da) (bytes-drop (n - k) b db) e in
+      last-split ∙ rw (same-yes (take k x) (take k y) s) (and-true (sameBytes (take (n - k) a) (take (n - k) b)))
 
 -- a SID has 8 to 68 bytes
 pub record SidLength (n : ℕ) : Type 0 where
@@ -95,6 +105,41 @@ sid-most s = sid-cases s (λ (n : ℕ). n ≤ 68) (omega arith) (λ n h. omega a
 pub sid-append : (a b : List ℕ) → 2 ≤ length a → sidLen (a ++ b) ≡ sidLen a
 unfolding sidLen
 sid-append a b h = rw (List·getD-append a b 0 0 (omega arith), List·getD-append a b 0 1 (omega arith))
+
+-- one that is whole: none in fewer than eight bytes, and none that is longer than what is there
+pub whole-cut : (s : List ℕ) → length s < sidLen s → wholeSid s ≡ 0
+unfolding wholeSid
+whole-cut s h = rw (lt-leb (sidLen s) (length s))
+
+pub whole-there : (s : List ℕ) → sidLen s ≤ length s → wholeSid s ≡ sidLen s
+unfolding wholeSid
+whole-there s h = rw (le-leb (sidLen s) (length s))
+
+pub whole-short : (s : List ℕ) → length s < 8 → wholeSid s ≡ 0
+unfolding wholeSid
+whole-short s h = sid-cases s (λ (n : ℕ). cond (leb n (length s)) n 0 ≡ 0) (rw (le-leb 0 (length s) (omega arith))) (λ n p. rw (lt-leb (8 + 4 * n) (length s) (omega arith)))
+
+pub record WholeSid (s : List ℕ) : Type 0 where
+  pub least : 8 ≤ wholeSid s
+  pub most : wholeSid s ≤ length s
+  pub is : isSid (take (wholeSid s) s) ≡ true
+
+pub whole-sid : (s : List ℕ) → 0 < wholeSid s → WholeSid s
+unfolding isSid
+whole-sid s h = split (sidLen s) (length s) there (λ l. absurd (omega (arith, whole-cut s l)))
+  where
+    there : sidLen s ≤ length s → WholeSid s
+    there l =
+        let e = whole-there s l in
+        let z = sid-length s (omega (arith, e)) in
+        let t = take (sidLen s) s in
+        let n : length t ≡ sidLen s = length-take-le (sidLen s) s l in
+        let q : sidLen t ≡ sidLen s = sym (sid-append t (drop (sidLen s) s) (omega (arith, n, z))) ∙ ap sidLen (take-append-drop (sidLen s) s) in
+        record {
+          least = omega (arith, e, z);
+          most = omega (arith, e);
+          is = rw (e, q, n, lt-ltb 0 (sidLen s) (omega (arith, z)), eq-eqb (sidLen s) (sidLen s) refl);
+        }
 
 -- exactly one SID
 pub record OneSid (s : List ℕ) : Type 0 where
@@ -124,6 +169,13 @@ long-sid s h =
 pub not-twelve : (s : List ℕ) → (length s ≡ 12 → ⊥) → placeholderOf s ≡ 0
 unfolding placeholderOf
 not-twelve s f = rw (same-length s (creator 0) f, same-length s (creator 1) f)
+
+-- so a SID is whole in front of anything
+pub whole-joined : (s u : List ℕ) → isSid s ≡ true → wholeSid (s ++ u) ≡ length s
+whole-joined s u h =
+    let o = one-sid s h in
+    let e : sidLen (s ++ u) ≡ sidLen s = sid-append s u (omega (arith, o .exact, sid-length s (o .some))) in
+    whole-there (s ++ u) (omega (arith, e, o .exact, length-append s u)) ∙ e ∙ sym (o .exact)
 
 -- an ordinary identity: exactly one SID, and no placeholder
 pub identity-zero : (s : List ℕ) → identityOf s ≡ 0 → (isSid s ≡ true) × (placeholderOf s ≡ 0)

@@ -1,9 +1,10 @@
 -- Bytes: little-endian numbers, equality, and what a writer leaves. A byte list is `List ℕ`.
 use Prim.Native.Nat.{ℕ, zero, suc, _+_, _*_, _/_, _%_, _<_}
 use mathlib.Core.List.{List, [], _∷_, _++_}
-use mathlib.Core.Bool.{Bool, true, false, cond, _&&_}
+use mathlib.Core.Bool.{Bool, true, false, not, cond, _&&_, _||_}
 use lib.ListN.{length, getD, take, drop, replicate}
 use lib.Dec.{eqb, leb}
+use lib.Bits.{bitAnd}
 
 -- every element is a byte
 abbrev pub Bytes : List ℕ → Type 0
@@ -20,12 +21,21 @@ unfoldable pub spell : ℕ → ℕ → List ℕ
 spell zero m = []
 spell (suc k) m = m % 256 ∷ spell k (m / 256)
 
+-- a bit of `bit` is set in n
+abbrev pub has : ℕ → ℕ → Bool
+has bit n = not (eqb (bitAnd n bit) 0)
+
 -- a and b hold the same bytes
 unfoldable pub sameBytes : List ℕ → List ℕ → Bool
 sameBytes [] [] = true
 sameBytes [] (b ∷ bs) = false
 sameBytes (a ∷ r) [] = false
 sameBytes (a ∷ r) (b ∷ bs) = eqb a b && sameBytes r bs
+
+-- s is one of them: a GUID among the object types, a SID among those held
+unfoldable pub among : List ℕ → List (List ℕ) → Bool
+among s [] = false
+among s (t ∷ ts) = sameBytes t s || among s ts
 
 -- the n bytes at `at`, or as many of them as there are
 unfoldable pub part : ℕ → ℕ → List ℕ → List ℕ

@@ -12,6 +12,10 @@ use Rattle.list.specs.declared.identities.Made.{Made}
 unfoldable pub sidLen : List ℕ → ℕ
 sidLen s = cond (eqb (getD s 0 0) 1 && leb (getD s 1 0) 15) (8 + 4 * getD s 1 0) 0
 
+-- how long the SID is that s begins with and holds whole; 0 where it begins with none, or with one that is cut
+unfoldable pub wholeSid : List ℕ → ℕ
+wholeSid s = cond (leb (sidLen s) (length s)) (sidLen s) 0
+
 -- exactly one SID
 unfoldable pub isSid : List ℕ → Bool
 isSid s = ltb 0 (sidLen s) && eqb (length s) (sidLen s)

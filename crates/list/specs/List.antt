@@ -2,6 +2,7 @@
 use Prim.Native.Nat.{ℕ, zero, suc, _+_}
 use mathlib.Core.List.{List, [], _∷_, _++_, flatten}
 use mathlib.Core.Bool.{Bool, cond, _&&_, _||_}
+use mathlib.Core.Option.{Option, none, some}
 use lib.ListN.{length, getD, take, drop}
 use lib.Dec.{eqb, leb}
 use Rattle.list.specs.Bytes.{le, spell}
@@ -10,6 +11,14 @@ use Rattle.list.specs.declared.entries.Checked.{Checked}
 use Rattle.list.specs.declared.entries.Checked.the-variants.{Good, Bad}
 use Rattle.list.specs.declared.lists.Reading.{Reading}
 use Rattle.list.specs.declared.lists.Reading.the-variants.{Done, Refused}
+
+-- a list's bytes, or none where it is absent
+abbrev pub MaybeList : Type 0
+MaybeList = Option (List ℕ)
+
+-- bytes that are a list where one is given
+abbrev pub lent : Bool → List ℕ → MaybeList
+lent given s = cond given (some s) none
 
 unfoldable pub revOk : ℕ → Bool
 revOk rev = eqb rev 2 || eqb rev 4

@@ -3,8 +3,9 @@ ghost use mathlib.Core.Path.{_≡_};
 ghost use Prim.Native.Nat.{_+_, _≤_};
 ghost use lib.ListN.{length, take, drop};
 ghost use Rattle.list.specs.Bytes.{sameBytes, guidAt};
-ghost use Rattle.list.specs.Identity.{sidLen, isSid, placeholderOf, identityOf, bytesOf, madeOf, placeholderSid};
+ghost use Rattle.list.specs.Identity.{sidLen, wholeSid, isSid, placeholderOf, identityOf, bytesOf, madeOf, placeholderSid};
 use crate::numbers::put;
+use crate::numbers::same_bytes;
 use crate::numbers::word_at;
 
 // An identity: its bytes, zeros up to 68, and how many bytes it has.
@@ -230,6 +231,23 @@ pub(crate) fn sid_at(s: &[u8], at: usize) -> usize
     8 + 4 * (n as usize)
 }
 
+// The length of the SID that lies whole at `at`, 0 where none does.
+pub fn sid_in(s: &[u8], at: usize) -> usize
+    ensures { λ r. ⌜ r ≡ wholeSid (drop at (now (s .entry))) ⌝ }
+{
+    if s.len() < 8 {
+        return 0;
+    }
+    if s.len() - 8 < at {
+        return 0;
+    }
+    let len = sid_at(s, at);
+    if s.len() - at < len {
+        return 0;
+    }
+    len
+}
+
 fn is_sid(b: &[u8]) -> bool
     ensures { λ r. ⌜ r ≡ isSid (now (b .entry)) ⌝ }
 {
@@ -304,12 +322,5 @@ pub fn guid_at(s: &[u8], at: usize) -> [u8; 16]
 pub fn same_guid(a: [u8; 16], b: [u8; 16]) -> bool
     ensures { λ r. ⌜ r ≡ sameBytes a b ⌝ }
 {
-    let mut i = 0;
-    while i < 16 {
-        if a[i] != b[i] {
-            return false;
-        }
-        i += 1;
-    }
-    true
+    same_bytes(&a, &b)
 }

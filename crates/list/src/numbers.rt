@@ -1,8 +1,8 @@
-// Little-endian numbers, and bytes put on the front of a buffer.
+// Little-endian numbers, bytes compared, and bytes put on the front of a buffer.
 ghost use mathlib.Core.Path.{_≡_};
 ghost use Prim.Native.Nat.{_+_, _≤_, min};
-ghost use lib.ListN.{length, drop, getD};
-ghost use Rattle.list.specs.Bytes.{le, part, putOn};
+ghost use lib.ListN.{length, take, drop, getD};
+ghost use Rattle.list.specs.Bytes.{le, sameBytes, part, putOn};
 
 // The 16-bit number at `at`.
 pub(crate) fn half_at(s: &[u8], at: usize) -> u16
@@ -67,6 +67,38 @@ pub fn word_in(s: &[u8], at: usize) -> u32
         return (half_in(s, at) as u32) + 65536 * (half_in(s, high) as u32);
     }
     0
+}
+
+// Whether the first n bytes are the same.
+fn same_front(a: &[u8], b: &[u8], n: usize) -> bool
+    requires { ⌜ (n ≤ length (now a)) × (n ≤ length (now b)) ⌝ }
+    ensures { λ r. ⌜ r ≡ sameBytes (take n (now (a .entry))) (take n (now (b .entry))) ⌝ }
+{
+    let mut left = n;
+    while 0 < left {
+        if a[left - 1] != b[left - 1] {
+            return false;
+        }
+        left -= 1;
+    }
+    true
+}
+
+// Whether the bytes are the same: by words, the last one first, in which identities of one domain differ.
+pub fn same_bytes(a: &[u8], b: &[u8]) -> bool
+    ensures { λ r. ⌜ r ≡ sameBytes (now (a .entry)) (now (b .entry)) ⌝ }
+{
+    if a.len() != b.len() {
+        return false;
+    }
+    let mut left = a.len();
+    while 4 <= left {
+        if word_at(a, left - 4) != word_at(b, left - 4) {
+            return false;
+        }
+        left -= 4;
+    }
+    same_front(a, b, left)
 }
 
 // The n bytes at `at`, or as many of them as there are.

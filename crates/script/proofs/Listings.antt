@@ -8,8 +8,8 @@ use native.Mathlib.Nat.{zero-add}
 use native.Mathlib.Numerals.{add-one}
 use native.Mathlib.Omega.{arith}
 use lib.ListN.{length, getD}
+use Rattle.list.specs.List.{MaybeList}
 use Rattle.list.proofs.Tests.{tests}
-use Rattle.inherit.specs.Asked.{MaybeList}
 use Rattle.tree.specs.Shown.{listsIn}
 use Rattle.tree.specs.declared.Answer.{Answer}
 use Rattle.tree.specs.declared.Answer.the-variants.{Done, Refused}

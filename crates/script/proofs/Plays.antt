@@ -10,10 +10,10 @@ use lib.ListN.{length, getD, take, drop, replicate, length-append, length-drop, 
 use lib.Seq.{take-all}
 use lib.Dec.{eqb, leb}
 use borrow.Author.Tests.{leb-true, eq-eqb, ne-eqb}
+use Rattle.list.specs.List.{MaybeList}
 use Rattle.list.proofs.Places.{split}
 use Rattle.list.proofs.Tests.{both-true}
 use Rattle.list.proofs.Writes.{front-all}
-use Rattle.inherit.specs.Asked.{MaybeList}
 use Rattle.inherit.specs.Compute.{ruleOk}
 use Rattle.tree.specs.Model.{Object, Tree, listOf, objectsOf, begun as begun-tree, after, accepted, shortIf, limitsOk}
 use Rattle.tree.specs.Shown.{Request, settingsFrom, meant, listsIn, callOn, playedOn}

@@ -5,9 +5,9 @@ use mathlib.Core.Bool.{Bool, true, false, cond, _&&_}
 use mathlib.Core.Option.{none}
 use lib.ListN.{length, getD, drop, replicate}
 use lib.Dec.{eqb, leb}
+use Rattle.list.specs.List.{MaybeList}
 use Rattle.list.specs.Bytes.{le}
 use Rattle.inherit.specs.declared.Mapping.{Mapping}
-use Rattle.inherit.specs.Asked.{MaybeList}
 use Rattle.tree.specs.Model.{Settings}
 use Rattle.tree.specs.Shown.{listsIn}
 use Rattle.tree.specs.declared.Answer.{Answer}

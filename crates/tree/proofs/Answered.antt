@@ -11,13 +11,12 @@ use lib.Dec.{ltb}
 use borrow.Author.Tests.{ltb-true, leb-true, le-leb, lt-leb, ne-eqb}
 use Rattle.list.specs.Bytes.{part, putAt, front}
 use Rattle.list.specs.Entry.{access}
-use Rattle.list.specs.List.{checkOf}
+use Rattle.list.specs.List.{checkOf, MaybeList}
 use Rattle.list.specs.declared.lists.Reading.{Reading}
 use Rattle.list.specs.declared.lists.Reading.the-variants.{Done as Read, Refused as Unread}
 use Rattle.list.proofs.Answers.{ListNumber, list-number}
 use Rattle.list.proofs.Places.{length-part}
 use Rattle.list.proofs.Tests.{both-true, le-or, off}
-use Rattle.inherit.specs.Asked.{MaybeList}
 use Rattle.inherit.specs.Compute.{ruleOk}
 use Rattle.tree.specs.Model.{Settings, shortIf, limitsOk}
 use Rattle.tree.specs.declared.Answer.{Answer}

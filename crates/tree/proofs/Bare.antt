@@ -8,6 +8,7 @@ use native.Mathlib.Omega.{arith}
 use lib.ListN.{length, set}
 use lib.Dec.{leb, ltb}
 use borrow.Author.Tests.{le-leb, leb-true}
+use Rattle.list.specs.List.{MaybeList}
 use Rattle.list.specs.Order.{need}
 use Rattle.list.specs.Bytes.{front}
 use Rattle.list.specs.Entry.{access}
@@ -15,7 +16,6 @@ use Rattle.list.specs.Answer.{Values, done, refused}
 use Rattle.list.proofs.Tests.{off}
 use Rattle.list.specs.Spare.{bare, Sized}
 use Rattle.list.proofs.Spare.{short-sized, bare-shorter}
-use Rattle.inherit.specs.Asked.{MaybeList}
 use Rattle.inherit.specs.Compute.{readable, ordinary}
 use Rattle.inherit.specs.Spare.{bareIf, Each}
 use Rattle.inherit.proofs.Spare.{readable-unseen, like-same, like-bare, result-like}

@@ -8,10 +8,10 @@ use Prim.Native.Nat.{ℕ, suc, _+_, _-_, _≤_, _<_, min}
 use native.Mathlib.Omega.{arith}
 use lib.ListN.{length}
 use borrow.Author.Tests.{lt-ltb, le-ltb}
+use Rattle.list.specs.List.{MaybeList}
 use Rattle.list.specs.Bytes.{part, putAt, putOn}
 use Rattle.list.proofs.Places.{part-most, put-whole}
 use Rattle.list.proofs.Writes.{put-all}
-use Rattle.inherit.specs.Asked.{MaybeList}
 use Rattle.inherit.specs.Compute.{ordinary}
 use Rattle.tree.specs.Model.{Object, parentByte, shortIf}
 use Rattle.tree.specs.declared.Answer.{Answer}

@@ -10,14 +10,14 @@ use lib.Dec.{eqb}
 use borrow.Author.Tests.{le-leb, eqb-true}
 use Rattle.list.specs.Bytes.{part}
 use Rattle.list.specs.Entry.{access}
-use Rattle.list.specs.List.{checkOf}
+use Rattle.list.specs.List.{checkOf, MaybeList, lent}
 use Rattle.list.specs.declared.lists.Reading.{Reading}
 use Rattle.list.specs.declared.lists.Reading.the-variants.{Done, Refused as Unread}
 use Rattle.list.proofs.Places.{split}
 use Rattle.list.proofs.Tests.{off}
 use Rattle.list.proofs.Told.{told}
 use Rattle.list.specs.Answer.{Values, done, refused}
-use Rattle.inherit.specs.Asked.{MaybeList, lent, typesOk}
+use Rattle.inherit.specs.Asked.{typesOk}
 use Rattle.inherit.specs.Inner.Source.{sourceOf}
 use Rattle.inherit.specs.Branch.{Result, absent, holds, resultOf}
 use Rattle.inherit.specs.Compute.{ruleOk, sizeFor, fits, withRoom, computeOf, bytesFor}

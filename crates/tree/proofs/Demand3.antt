@@ -8,11 +8,11 @@ use Prim.Native.Nat.{ℕ, zero, suc, _≤_, _<_}
 use native.Mathlib.Omega.{arith}
 use lib.ListN.{length}
 use lib.Dec.{eqb, leb}
+use Rattle.list.specs.List.{MaybeList}
 use Rattle.list.specs.Order.{need}
 use Rattle.list.specs.Bytes.{front}
 use Rattle.list.specs.Answer.{Values, done, refused}
 use Rattle.list.proofs.Tests.{both-true, off}
-use Rattle.inherit.specs.Asked.{MaybeList}
 use Rattle.inherit.specs.Spare.{NoSpare}
 use Rattle.inherit.specs.Compute.{ruleOk}
 use Rattle.tree.specs.Model.{Settings, shortIf, limitsOk}

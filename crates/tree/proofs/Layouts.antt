@@ -6,9 +6,9 @@ use mathlib.Core.List.{List, [], _∷_, _++_, map}
 use mathlib.Core.Option.{Option, none, some}
 use Prim.Native.Nat.{ℕ}
 use lib.ListN.{take, set, replicate}
+use Rattle.list.specs.List.{MaybeList}
 use Rattle.list.specs.Bytes.{putAt}
 use Rattle.list.specs.Identity.{creator}
-use Rattle.inherit.specs.Asked.{MaybeList}
 use Rattle.inherit.proofs.Worked.{mapping, system, parentWith, inherited, listed}
 use Rattle.tree.specs.General.{every, tab}
 use Rattle.tree.specs.Model.{Settings, Object, shortIf, limitsOk}

@@ -11,11 +11,12 @@ use lib.ListN.{length, getD, set, length-append, length-set, List·getD-append}
 use lib.Seq.{getD-at, getD-set-same, getD-set-other}
 use lib.Dec.{eqb, ltb, leb}
 use borrow.Author.Tests.{ltb-true, ne-eqb, eqb-false, le-leb, leb-true}
+use Rattle.list.specs.List.{MaybeList}
 use Rattle.list.specs.Bytes.{putAt}
 use Rattle.list.proofs.Places.{split}
 use Rattle.list.proofs.Tests.{both-true}
 use Rattle.list.specs.Answer.{Values, done, refused}
-use Rattle.inherit.specs.Asked.{Asked, MaybeList}
+use Rattle.inherit.specs.Asked.{Asked}
 use Rattle.inherit.specs.Spare.{NoSpare}
 use Rattle.inherit.specs.Branch.{Result, absent, holds, resultOf}
 use Rattle.inherit.specs.Compute.{ordinary, ruleOk, sizeFor, fits, revFor, withRoom, bytesFor}

@@ -12,12 +12,11 @@ use lib.Seq.{getD-at, getD-set-same, getD-set-other}
 use lib.Dec.{leb, ltb}
 use borrow.Author.Tests.{leb-false, lt-leb, ltb-true}
 use Rattle.list.specs.Entry.{access}
-use Rattle.list.specs.List.{checkOf}
+use Rattle.list.specs.List.{checkOf, MaybeList}
 use Rattle.list.specs.declared.lists.Reading.{Reading}
 use Rattle.list.specs.declared.lists.Reading.the-variants.{Done as Read, Refused as Unread}
 use Rattle.list.proofs.Places.{split}
 use Rattle.list.proofs.Tests.{both-true, off}
-use Rattle.inherit.specs.Asked.{MaybeList}
 use Rattle.inherit.specs.Branch.{Result, absent, holds, resultOf}
 use Rattle.inherit.specs.Compute.{ordinary, bytesFor, onReading, readable}
 use Rattle.list.specs.Order.{need}

@@ -9,11 +9,10 @@ use lib.Dec.{eqb}
 use borrow.Author.Tests.{ne-eqb}
 use Rattle.list.specs.Order.{need}
 use Rattle.list.specs.Entry.{access}
-use Rattle.list.specs.List.{checkOf}
+use Rattle.list.specs.List.{checkOf, MaybeList}
 use Rattle.list.specs.declared.lists.Reading.{Reading}
 use Rattle.list.specs.declared.lists.Reading.the-variants.{Done as Read, Refused as Unread}
 use Rattle.list.proofs.Answers.{ListNumber, list-number}
-use Rattle.inherit.specs.Asked.{MaybeList}
 use Rattle.list.specs.Answer.{Values}
 use Rattle.list.proofs.Tests.{off}
 use Rattle.tree.specs.declared.Answer.{Answer}

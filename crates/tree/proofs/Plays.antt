@@ -13,12 +13,11 @@ use lib.Dec.{ltb}
 use borrow.Author.Tests.{lt-ltb, le-ltb, ltb-true}
 use Rattle.list.specs.Bytes.{putAt, front, part}
 use Rattle.list.specs.Entry.{access}
-use Rattle.list.specs.List.{checkOf}
+use Rattle.list.specs.List.{checkOf, MaybeList}
 use Rattle.list.specs.declared.lists.Reading.{Reading}
 use Rattle.list.specs.declared.lists.Reading.the-variants.{Done as Read, Refused as Unread}
 use Rattle.list.proofs.Places.{split, length-part, put-whole}
 use Rattle.list.proofs.Tests.{both-true}
-use Rattle.inherit.specs.Asked.{MaybeList}
 use Rattle.inherit.specs.Compute.{ordinary}
 use Rattle.tree.specs.Model.{shortIf}
 use Rattle.tree.specs.General.{tab}

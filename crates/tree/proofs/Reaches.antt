@@ -13,9 +13,9 @@ use lib.ListN.{length, getD, drop, replicate, length-append, length-drop, length
 use lib.Seq.{take-at}
 use lib.Dec.{leb}
 use borrow.Author.Tests.{leb-true, lt-ltb}
+use Rattle.list.specs.List.{MaybeList}
 use Rattle.list.specs.Bytes.{front, part}
 use Rattle.list.proofs.Tests.{both-true, off}
-use Rattle.inherit.specs.Asked.{MaybeList}
 use Rattle.inherit.specs.Compute.{ruleOk}
 use Rattle.tree.specs.Model.{Settings, shortIf, limitsOk}
 use Rattle.tree.specs.General.{isSome, tab}

@@ -7,8 +7,7 @@ use lib.ListN.{length, getD, take, set}
 use lib.Dec.{eqb, ltb}
 use Rattle.list.specs.Bytes.{putAt}
 use Rattle.list.specs.Entry.{access}
-use Rattle.list.specs.List.{checkOf}
-use Rattle.inherit.specs.Asked.{MaybeList}
+use Rattle.list.specs.List.{checkOf, MaybeList}
 use Rattle.inherit.specs.Compute.{ordinary}
 use Rattle.tree.specs.Model.{shortIf}
 use Rattle.tree.specs.General.{bind, tab}

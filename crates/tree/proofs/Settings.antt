@@ -7,10 +7,10 @@ use native.Mathlib.Nat.{pow-suc}
 use native.Mathlib.Omega.{arith}
 use lib.ListN.{length}
 use lib.Arith.{mod-mul}
+use Rattle.list.specs.List.{MaybeList}
 use Rattle.list.specs.Bytes.{le, spell}
 use Rattle.list.proofs.Little.{le-append, length-spell}
 use Rattle.inherit.specs.declared.Mapping.{Mapping}
-use Rattle.inherit.specs.Asked.{MaybeList}
 use Rattle.inherit.specs.Compute.{ruleOk}
 use Rattle.tree.specs.Model.{shortIf}
 use Rattle.tree.specs.Held.{held, slotFor}

@@ -8,7 +8,7 @@ use mathlib.Core.Option.{some}
 use Prim.Native.Nat.{ℕ, _<_}
 use lib.ListN.{length}
 use lib.Dec.{leb}
-use Rattle.inherit.specs.Asked.{MaybeList}
+use Rattle.list.specs.List.{MaybeList}
 use Rattle.inherit.specs.Spare.{bareIf}
 use Rattle.tree.specs.Model as Model
 use Rattle.tree.specs.Model.{Settings, Object, Part, shortIf}

@@ -8,9 +8,9 @@ use Prim.Native.Nat.{ℕ, _+_, _-_, _*_, _≤_}
 use lib.ListN.{length, drop, replicate}
 use lib.Dec.{leb}
 use borrow.Author.Tests.{le-leb}
+use Rattle.list.specs.List.{MaybeList}
 use Rattle.list.specs.Identity.{creator}
 use Rattle.list.specs.Answer.{Values, done, refused}
-use Rattle.inherit.specs.Asked.{MaybeList}
 use Rattle.inherit.proofs.Worked.{mapping, system, parentWith, inherited, listed as bytes}
 use Rattle.tree.specs.General.{bind, isSome, every, rest}
 use Rattle.tree.specs.Room.{roomFor}

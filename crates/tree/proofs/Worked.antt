@@ -8,13 +8,13 @@ use Prim.Native.Nat.{ℕ, _+_, _*_, _≤_}
 use native.Mathlib.Omega.{arith}
 use lib.ListN.{replicate}
 use Rattle.list.specs.Order.{need}
-use Rattle.list.specs.Bytes.{le, spell, sameBytes, guidAt, part}
+use Rattle.list.specs.Bytes.{le, spell, sameBytes, guidAt, part, among}
 use Rattle.list.specs.Identity.{sidLen, isSid, placeholderOf, identityOf}
 use Rattle.list.specs.Entry.{plainOf, objectOf, objectKind, kindOk, flagsOk, headOf, wordAfter, entryBytes, tailOk, entryOf}
-use Rattle.list.specs.List.{revOk, headerOk, cut, entriesOf, headBytes, render, onGood, walkOf, finish, checkOf}
-use Rattle.inherit.specs.Asked.{Asked, MaybeList, lent, entriesIf, typesOk, typesOf}
+use Rattle.list.specs.List.{revOk, headerOk, cut, entriesOf, headBytes, render, onGood, walkOf, finish, checkOf, MaybeList, lent}
+use Rattle.inherit.specs.Asked.{Asked, entriesIf, typesOk, typesOf}
 use Rattle.inherit.specs.Inner.Source.{given}
-use Rattle.inherit.specs.Copies.{anyHeritable, among, typeApplies, pass, keptFlags, takesFirst, firstPart, takesSecond, secondPart, fromParent, ownEntries, fromCreator}
+use Rattle.inherit.specs.Copies.{anyHeritable, typeApplies, pass, keptFlags, takesFirst, firstPart, takesSecond, secondPart, fromParent, ownEntries, fromCreator}
 use Rattle.inherit.specs.Last.{inPlace, mapped, resolved, lastOf, lastStep}
 use Rattle.inherit.specs.Branch.{inheritedBit, withCreator, fromDefault, branch, resultOf}
 use Rattle.inherit.specs.Compute.{anyObject, withRoom, onReading, readable, ruleOk, computeOf, bytesFor, askedBy}

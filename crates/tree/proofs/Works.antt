@@ -11,6 +11,7 @@ use lib.ListN.{length, drop}
 use lib.Seq.{take-at}
 use lib.Dec.{eqb}
 use borrow.Author.Tests.{ne-eqb, lt-ltb, le-ltb, not-true}
+use Rattle.list.specs.List.{MaybeList, lent}
 use Rattle.list.specs.Bytes.{le, part, putAt}
 use Rattle.inherit.specs.declared.Settings.{Settings}
 use Rattle.inherit.specs.declared.Mapping.{Mapping}
@@ -18,7 +19,7 @@ use Rattle.inherit.specs.declared.Computed.{Computed}
 use Rattle.inherit.specs.declared.Computed.the-variants.{Present, Absent, Refused}
 use Rattle.list.specs.Entry.{access}
 use Rattle.list.specs.Answer.{Values, done, refused}
-use Rattle.inherit.specs.Asked.{Asked, MaybeList, lent}
+use Rattle.inherit.specs.Asked.{Asked}
 use Rattle.inherit.specs.Inner.Source.{given}
 use Rattle.inherit.specs.Branch.{resultOf}
 use Rattle.inherit.specs.Compute.{computeOf, bytesFor, written, outOf, computedValues, isRefusal, askedBy, Answers}

@@ -9,11 +9,10 @@ use lib.Dec.{eqb, leb, ltb}
 use Rattle.list.specs.Order.{need}
 use Rattle.list.specs.Bytes.{part, putAt, front, guidAt}
 use Rattle.list.specs.Entry.{access}
-use Rattle.list.specs.List.{checkOf, countOf}
+use Rattle.list.specs.List.{checkOf, countOf, MaybeList}
 use Rattle.list.specs.Answer.{Values, done, refused}
 use Rattle.list.specs.declared.lists.Reading.{Reading}
 use Rattle.list.specs.declared.lists.Reading.the-variants.{Done as Read, Refused as Unread}
-use Rattle.inherit.specs.Asked.{MaybeList}
 use Rattle.inherit.specs.Compute.{ordinary, ruleOk}
 use Rattle.tree.specs.declared.Answer.{Answer}
 use Rattle.tree.specs.declared.Answer.the-variants.{Done, Refused}

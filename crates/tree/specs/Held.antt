@@ -7,10 +7,9 @@ use lib.ListN.{length, getD, drop, replicate}
 use lib.Dec.{eqb, leb}
 use Rattle.list.specs.Bytes.{le, spell, part, sameBytes, guidAt}
 use Rattle.list.specs.Entry.{access}
-use Rattle.list.specs.List.{checkOf}
+use Rattle.list.specs.List.{checkOf, MaybeList, lent}
 use Rattle.list.specs.declared.lists.Reading.{Reading}
 use Rattle.list.specs.declared.lists.Reading.the-variants.{Done, Refused}
-use Rattle.inherit.specs.Asked.{MaybeList, lent}
 use Rattle.inherit.specs.Compute.{ordinary}
 use Rattle.tree.specs.Model.{Object, parentByte}
 

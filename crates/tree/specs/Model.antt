@@ -9,10 +9,10 @@ use lib.Dec.{eqb, leb, ltb}
 use Rattle.list.specs.Order.{need}
 use Rattle.list.specs.Bytes.{front}
 use Rattle.list.specs.Entry.{access}
-use Rattle.list.specs.List.{countOf}
+use Rattle.list.specs.List.{countOf, MaybeList}
 use Rattle.list.specs.Answer.{Values, done, refused}
 use Rattle.inherit.specs.declared.Mapping.{Mapping}
-use Rattle.inherit.specs.Asked.{Asked, MaybeList}
+use Rattle.inherit.specs.Asked.{Asked}
 use Rattle.inherit.specs.Branch.{Result, absent, holds, resultOf}
 use Rattle.inherit.specs.Compute.{bytesFor, readable, ordinary, ruleOk}
 use Rattle.tree.specs.General.{bind, isSome, every, rest}

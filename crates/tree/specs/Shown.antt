@@ -4,8 +4,8 @@ use mathlib.Core.Bool.{cond}
 use mathlib.Core.List.{List, [], _∷_}
 use lib.ListN.{length, take, set}
 use lib.Dec.{eqb, leb}
+use Rattle.list.specs.List.{MaybeList}
 use Rattle.list.specs.Answer.{Values}
-use Rattle.inherit.specs.Asked.{MaybeList}
 use Rattle.tree.specs.General.{tab}
 use Rattle.tree.specs.Held.{held, parentOf, kindByte, markByte, typeOf, ownerOf, groupOf, ownList}
 use Rattle.tree.specs.Room.{objectLimit, stepLimit, objects, settings, ruleOf, mappingOf, defaultOf, ownData, slot, step, stepTag, stepObject, stepData, roomFor}

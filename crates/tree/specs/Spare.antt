@@ -1,6 +1,6 @@
 -- Objects, settings and calls without spare bytes (RULES 1.4) in the lists that they have.
 use mathlib.Core.Option.{none}
-use Rattle.inherit.specs.Asked.{MaybeList}
+use Rattle.list.specs.List.{MaybeList}
 use Rattle.inherit.specs.Spare.{bareIf}
 use Rattle.tree.specs.Model.{Settings, Object, withList}
 use Rattle.tree.specs.Calls.{New, Edit, list, mark, owners, ChangeGiven, add, alter}

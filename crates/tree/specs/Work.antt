@@ -4,10 +4,11 @@ use mathlib.Core.List.{List}
 use mathlib.Core.Bool.{Bool, true, false, cond}
 use mathlib.Core.Option.{Option, none, some}
 use lib.Dec.{eqb, ltb}
+use Rattle.list.specs.List.{MaybeList, lent}
 use Rattle.list.specs.Bytes.{putAt}
 use Rattle.list.specs.Entry.{access}
 use Rattle.list.specs.Answer.{Values}
-use Rattle.inherit.specs.Asked.{Asked, MaybeList, lent}
+use Rattle.inherit.specs.Asked.{Asked}
 use Rattle.inherit.specs.Branch.{resultOf}
 use Rattle.inherit.specs.Compute.{computeOf, bytesFor}
 use Rattle.tree.specs.General.{bind}

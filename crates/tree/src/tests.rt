@@ -1,6 +1,6 @@
 // The tests of what a call is given, each with the number of its refusal.
 ghost use mathlib.Core.Path.{_≡_};
-ghost use Rattle.inherit.specs.Asked.{lent};
+ghost use Rattle.list.specs.List.{lent};
 ghost use Rattle.tree.specs.Model.{shortIf as Model·short};
 ghost use Rattle.tree.specs.Held.{parentIn};
 ghost use Rattle.tree.specs.Calls.{nobody};

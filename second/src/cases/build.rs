@@ -105,6 +105,10 @@ impl EntryPlan {
         }
     }
 
+    pub fn naming(self, sid: Vec<u8>) -> EntryPlan {
+        EntryPlan { sid, ..self }
+    }
+
     pub fn is_object(&self) -> bool {
         self.entry_type == 5 || self.entry_type == 6
     }

@@ -1,5 +1,6 @@
 //! Making the stored cases, one module for each layer.
 
+pub mod access;
 pub mod build;
 pub mod inherit;
 pub mod list;
@@ -19,6 +20,7 @@ pub fn all(examples: &[Example]) -> Vec<Case> {
         inherit::all(),
         tree::all(),
         script::all(),
+        access::all(),
     ]
     .concat()
 }

@@ -1,6 +1,8 @@
 -- The tree's call, with the traits that the bits name; its answer in the eight places. Assumes nothing.
 use borrow.Author.Needs.{needs}
 use mathlib.Core.Path.{_≡_, ap, _∙_}
+use Rattle.list.specs.List.{lent}
+use Rattle.list.specs.Bytes.{has}
 use Rattle.tree.specs.Calls.{answerValues}
 use Rattle.capi.specs.Places.{placesOf}
 use mathlib.Core.Path.{refl}
@@ -8,7 +10,6 @@ use mathlib.Core.Bool.{Bool}
 use mathlib.Core.List.{List}
 use Prim.Native.Nat.{ℕ}
 use denote.Ref.{now}
-use Rattle.inherit.specs.Asked.{has, lent}
 use Rattle.tree.specs.Calls.{Outcome, New, objectFor, addTo}
 use Rattle.capi.specs.Places.{newOf}
 use Rattle.capi.proofs.pt_add.Statement.{statement}

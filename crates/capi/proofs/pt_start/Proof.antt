@@ -1,11 +1,11 @@
 -- The tree's call, with the masks that the mapping holds; its answer in the eight places. Assumes nothing.
 use borrow.Author.Needs.{needs}
 use mathlib.Core.Path.{ap, _∙_}
+use Rattle.list.specs.List.{lent}
 use Rattle.tree.specs.Calls.{answerValues}
 use Rattle.capi.specs.Places.{placesOf}
 use denote.Ref.{now}
 use Rattle.inherit.specs.declared.Mapping.{Mapping}
-use Rattle.inherit.specs.Asked.{lent}
 use Rattle.tree.specs.Model.{Settings}
 use Rattle.tree.specs.Calls.{Outcome, startTo}
 use Rattle.capi.specs.Places.{yesOf}

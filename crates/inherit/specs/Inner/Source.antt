@@ -5,12 +5,12 @@ use Prim.Native.Nat.{ℕ, _≤_}
 use mathlib.Core.List.{List}
 use mathlib.Core.Option.{none, some}
 use Rattle.list.specs.Entry.{access}
-use Rattle.list.specs.List.{revOf, checkOf}
+use Rattle.list.specs.List.{revOf, checkOf, MaybeList, lent}
 use Rattle.list.specs.declared.lists.Reading.{Reading}
 use Rattle.list.specs.declared.lists.Reading.the-variants.{Done, Refused}
 use Rattle.inherit.specs.declared.Settings.{Settings}
 use Rattle.inherit.specs.declared.tests.Source.{Source}
-use Rattle.inherit.specs.Asked.{MaybeList, lent, typesOk}
+use Rattle.inherit.specs.Asked.{typesOk}
 use Rattle.inherit.specs.Compute.{ordinary}
 
 -- a list is present

@@ -7,7 +7,7 @@ use mathlib.Core.List.{List}
 use Prim.Native.Nat.{ℕ}
 use denote.Ref.{now}
 use lib.ListN.{length}
-use Rattle.inherit.specs.Asked.{lent}
+use Rattle.list.specs.List.{lent}
 use Rattle.tree.specs.Model.{Settings, shortIf}
 use Rattle.tree.specs.declared.Answer.{Answer}
 use Rattle.tree.specs.declared.Answer.the-variants.{Refused}

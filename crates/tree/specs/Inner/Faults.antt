@@ -5,10 +5,9 @@ use mathlib.Core.Bool.{cond}
 use mathlib.Core.Option.{Option, none, some}
 use lib.Dec.{ltb}
 use Rattle.list.specs.Entry.{access}
-use Rattle.list.specs.List.{checkOf}
+use Rattle.list.specs.List.{checkOf, MaybeList}
 use Rattle.list.specs.declared.lists.Reading.{Reading}
 use Rattle.list.specs.declared.lists.Reading.the-variants.{Done as Read, Refused as Unread}
-use Rattle.inherit.specs.Asked.{MaybeList}
 use Rattle.tree.specs.declared.tests.Fault.{Fault}
 use Rattle.tree.specs.Room.{objectLimit, objects, ownData}
 use Rattle.tree.specs.Formed.{placedIn, formed}

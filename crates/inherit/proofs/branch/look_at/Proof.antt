@@ -4,10 +4,10 @@ use native.Mathlib.Omega.{arith}
 use mathlib.Core.Path.{_≡_, sym, ap, _∙_}
 use Prim.Native.Nat.{ℕ}
 use denote.Ref.{now}
+use Rattle.list.specs.Bytes.{has}
 use Rattle.list.specs.Entry.{access, fieldsOf}
 use Rattle.list.specs.declared.entries.Entry.{Entry}
 use Rattle.list.proofs.Cases.{fields, is-good}
-use Rattle.inherit.specs.Asked.{has}
 use Rattle.inherit.proofs.branch.look_at.Statement.{statement}
 use Rattle.inherit.proofs.branch.look_at.Tie as tie
 

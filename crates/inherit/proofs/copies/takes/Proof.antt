@@ -2,8 +2,8 @@
 use borrow.Author.Needs.{needs}
 use mathlib.Core.Path.{ap, _∙_}
 use mathlib.Core.Bool.{not, _&&_}
+use Rattle.list.specs.Bytes.{has}
 use Rattle.list.specs.declared.entries.Entry.{Entry}
-use Rattle.inherit.specs.Asked.{has}
 use Rattle.inherit.specs.Copies.{takesSecond}
 use Rattle.inherit.specs.Inner.Emit.{takesBy}
 use Rattle.inherit.proofs.copies.takes.Statement.{statement}

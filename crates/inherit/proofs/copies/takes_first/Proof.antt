@@ -5,11 +5,10 @@ use mathlib.Core.Bool.{true, false, cond, _&&_}
 use borrow.Author.Tests.{not-true, not-false}
 use denote.Ref.{now}
 use lib.ListN.{take}
-use Rattle.list.specs.Bytes.{guidAt}
+use Rattle.list.specs.Bytes.{guidAt, has, among}
 use Rattle.list.specs.Entry.{objectKind, flagsOf}
 use Rattle.list.specs.declared.entries.Entry.{Entry}
-use Rattle.inherit.specs.Asked.{has}
-use Rattle.inherit.specs.Copies.{among, takesFirst, typeApplies}
+use Rattle.inherit.specs.Copies.{takesFirst, typeApplies}
 use Rattle.inherit.proofs.copies.takes_first.Statement.{statement}
 use Rattle.inherit.proofs.copies.takes_first.Tie as tie
 

@@ -3,8 +3,8 @@ use borrow.Author.Needs.{needs}
 use mathlib.Core.Path.{ap₂, _∙_}
 use Prim.Native.Nat.{ℕ}
 use denote.Ref.{now}
+use Rattle.list.specs.List.{MaybeList}
 use Rattle.tree.proofs.Numbers.{promised-as}
-use Rattle.inherit.specs.Asked.{MaybeList}
 use Rattle.tree.specs.Calls.{list, alterTo}
 use Rattle.script.proofs.Tables.{list-by}
 use Rattle.script.proofs.records.set_list.Statement.{statement}

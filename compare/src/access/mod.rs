@@ -1,0 +1,175 @@
+//! Who may open, and the walk through a list.
+
+mod decides;
+mod generate;
+mod share;
+mod walk;
+mod watched;
+
+use crate::capi;
+use crate::capi::WhenEmpty;
+use crate::capi::lending::Lending;
+use crate::floors;
+use crate::report::Report;
+use generate::Subject;
+use second::access::{GENERIC, MOST_HELD, Question, Refused, Verdict, held_sids, try_may_open};
+use second::cases::build::without_spare;
+use second::hex;
+use second::list::{List, spare_bytes};
+use second::random::Random;
+use second::records::{Case, encode_all};
+use watched::Watched;
+
+/// Longer cases are told by their lengths.
+const LONGEST_TOLD: usize = 4_000;
+
+pub fn compare(cases: usize, seed: u64) -> Report {
+    let mut random = Random::new(seed);
+    let mut report = Report::new("access", &floors::ACCESS);
+    for _ in 0..cases {
+        match generate::subject(&mut random) {
+            Subject::Question { question, together } => {
+                compare_may_open(&mut random, &mut report, &question, together);
+            }
+            Subject::Step { list, place } => {
+                walk::compare_step(&mut random, &mut report, &list, place);
+            }
+            Subject::Walk(list) => walk::compare_walk(&mut random, &mut report, &list),
+        }
+    }
+    report
+}
+
+fn compare_may_open(random: &mut Random, report: &mut Report, question: &Question, together: bool) {
+    let outcome = try_may_open(question);
+    let ours = second::access::may_open(question);
+    let lent = question.clone();
+    let lending = lending(random, &lent, together);
+    let mut answer = Watched::draw(random);
+    capi::access::may_open(&lent, answer.lent(), &lending);
+    let theirs = answer.numbers();
+    let again = without_spare_bytes(question).map(|without| asked_apart(random, &without));
+
+    let difference = if theirs != ours {
+        Some(format!("{theirs:?}, second {ours:?}"))
+    } else if !answer.margins_are_unchanged() {
+        Some("what stands about the answer was changed".to_string())
+    } else if lent != *question || !lending.is_unchanged() {
+        Some("an input was changed".to_string())
+    } else if again.is_some_and(|again| again != theirs) {
+        Some("without spare bytes the library tells otherwise".to_string())
+    } else {
+        None
+    };
+    share::count_shared(report, &lending, &lent);
+    match outcome {
+        Ok(verdict) => count_answered(report, question, verdict),
+        Err(refused) => count_refused(report, question, refused),
+    }
+    let told = difference.map(|what| {
+        let case = Case::MayOpen(question.clone());
+        let length = question.list.len() + question.held.len();
+        format!("may open {}: {what}", told(case, length))
+    });
+    report.add("may open", ours[0], told);
+}
+
+fn lending(random: &mut Random, lent: &Question, together: bool) -> Lending {
+    let when_empty = WhenEmpty::draw(random);
+    match together {
+        true => Lending::together(when_empty, &share::parts(lent), None),
+        false => Lending::apart(when_empty),
+    }
+}
+
+/// Where there are some.
+fn without_spare_bytes(question: &Question) -> Option<Question> {
+    let list = question.present_list()?;
+    (spare_bytes(list) > 0).then(|| Question {
+        list: without_spare(list),
+        ..question.clone()
+    })
+}
+
+fn asked_apart(random: &mut Random, question: &Question) -> [u32; 8] {
+    let mut answer = [0; 8].map(|_: u32| random.word());
+    let lending = Lending::apart(WhenEmpty::draw(random));
+    capi::access::may_open(question, &mut answer, &lending);
+    answer
+}
+
+fn count_answered(report: &mut Report, question: &Question, verdict: Verdict) {
+    report.add_branch(verdict.name());
+    for what in decides::what_decides(question, verdict.is_yes()) {
+        report.add_branch(what);
+    }
+    let held = held_sids(&question.held).expect("the question is answered");
+    report.reach("most SIDs held", held.len());
+    if held.len() == MOST_HELD {
+        report.add_branch("32 SIDs held");
+    }
+    let Some(Ok(list)) = question.present_list().map(List::parse) else {
+        return;
+    };
+    report.reach("longest list", question.list.len());
+    report.reach("most entries of a list", list.entries.len());
+    let spare = question.list.len() - list.end;
+    if spare > 0 {
+        report.add_branch("answered with spare bytes");
+        report.reach("most spare bytes", spare);
+    }
+}
+
+/// What else would have been refused, later or by the easy yes.
+fn count_refused(report: &mut Report, question: &Question, refused: Refused) {
+    let held = held_sids(&question.held).map_or(usize::MAX, |sids| sids.len());
+    let held_is_bad = held > MOST_HELD;
+    let list_is_bad = question
+        .present_list()
+        .is_some_and(|list| List::parse(list).is_err());
+    let is_absent = question.has_list == 0;
+    let wants_nothing = question.wanted & !GENERIC == 0;
+    let found = match refused {
+        Refused::GenericWanted => [
+            ("14 before a bad list", list_is_bad),
+            ("14 before 6 or 7", held_is_bad),
+            ("14 without a list", is_absent),
+        ],
+        Refused::List(_) => [
+            ("a bad list before 6 or 7", held_is_bad),
+            ("a bad list with nothing wanted", wants_nothing),
+            (
+                "a bad list with another number for yes",
+                question.has_list > 1,
+            ),
+        ],
+        Refused::HeldNotSids => [
+            ("6 without a list", is_absent),
+            ("6 with nothing wanted", wants_nothing),
+            ("6 behind 33 SIDs", begins_with_too_many(&question.held)),
+        ],
+        Refused::TooManyHeld => [
+            ("7 without a list", is_absent),
+            ("7 with nothing wanted", wants_nothing),
+            ("7 by one too many", held == MOST_HELD + 1),
+        ],
+    };
+    for (what, _) in found.into_iter().filter(|&(_, yes)| yes) {
+        report.add_branch(what);
+    }
+}
+
+/// Whether more than 32 SIDs stand before what is none.
+fn begins_with_too_many(held: &[u8]) -> bool {
+    let ends = (0..held.len()).filter_map(|end| held_sids(&held[..end]).ok());
+    ends.map(|sids| sids.len()).max() > Some(MOST_HELD)
+}
+
+/// The case as a record of the case file, so that it can be tried again; one
+/// with so many bytes that it is long by its length.
+fn told(case: Case, length: usize) -> String {
+    match length {
+        0..=LONGEST_TOLD => hex::encode(&encode_all(&[case])),
+        _ => format!("of {length} bytes"),
+    }
+}

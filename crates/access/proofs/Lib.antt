@@ -1,0 +1,10 @@
+pub mod Holds
+pub mod Walks
+pub mod Weighs
+pub mod Turns
+pub mod Seeks
+pub mod Bitwise
+pub mod Wanted
+pub mod Decides
+pub mod Opens
+pub mod Theorems

@@ -1,0 +1,78 @@
+-- One entry, in the fields that the code has: whether it weighs, and what it leaves to decide.
+use mathlib.Core.Path.{_≡_, refl, sym, ap, ap₂, _∙_}
+use mathlib.Core.Bool.{Bool, true, false, not, cond, _&&_, and-true, and-false}
+use mathlib.Core.List.{List}
+use mathlib.Core.Option.{none, some}
+use Prim.Native.Nat.{ℕ, _+_, _-_}
+use native.Mathlib.Omega.{arith}
+use lib.ListN.{take, drop}
+use lib.Bits.{bitAnd}
+use borrow.Author.Tests.{eq-eqb, ne-eqb}
+use Rattle.list.specs.Bytes.{has, among, sameBytes, guidAt}
+use Rattle.list.specs.Entry.{objectKind, wordOf, kindOf, flagsOf, maskOf, sidAt, sidLenOf, sidOf, fieldsOf}
+use Rattle.list.specs.declared.entries.Entry.{Entry}
+use Rattle.access.specs.declared.decide.Turn.the-variants.{On, Denied}
+use Rattle.access.specs.Open.{typeCounts, counts, isAllow}
+use Rattle.access.specs.Inner.Decide.{without, weighs, leftAfter, turnWith}
+
+-- whether its type counts: no object entry; no ObjectType; else that is compared
+module _ (type t : List ℕ) where
+  pub plain-counts : objectKind (kindOf t) ≡ false → typeCounts type t ≡ true
+  unfolding typeCounts
+  plain-counts h = rw h
+
+  module _ (h : objectKind (kindOf t) ≡ true) where
+    pub untyped-counts : bitAnd (wordOf t) 1 ≡ 0 → typeCounts type t ≡ true
+    unfolding typeCounts
+    untyped-counts z = rw (h, eq-eqb (bitAnd (wordOf t) 1) 0 z)
+
+    pub typed-counts : (bitAnd (wordOf t) 1 ≡ 0 → ⊥) → typeCounts type t ≡ sameBytes (guidAt t 12) type
+    unfolding typeCounts
+    typed-counts z = rw (h, ne-eqb (bitAnd (wordOf t) 1) 0 z)
+
+module _ (type : List ℕ) (sids : List (List ℕ)) (left : ℕ) (t : List ℕ) (e : Entry) (q : e ≡ fieldsOf t) where
+  kind-is : e .kind ≡ kindOf t
+  kind-is = ap (λ (x : Entry). x .kind) q
+
+  flags-is : e .flags ≡ flagsOf t
+  flags-is = ap (λ (x : Entry). x .flags) q
+
+  mask-is : e .mask ≡ maskOf t
+  mask-is = ap (λ (x : Entry). x .mask) q
+
+  pub no-bit-left : has left (e .mask) ≡ false → weighs type sids left t ≡ false
+  unfolding weighs
+  no-bit-left h = rw (ap (has left) (sym mask-is) ∙ h)
+
+  pub only-inherited : (bitAnd (e .flags) 8 ≡ 0 → ⊥) → weighs type sids left t ≡ false
+  unfolding weighs counts
+  only-inherited f = rw (ne-eqb (bitAnd (flagsOf t) 8) 0 (λ z. f (ap (λ (x : ℕ). bitAnd x 8) flags-is ∙ z))) (and-false (has left (maskOf t)))
+
+  pub other-type : typeCounts type t ≡ false → weighs type sids left t ≡ false
+  unfolding weighs counts
+  other-type h = rw (h, and-false (among (sidOf t) sids), and-false (not (has 8 (flagsOf t)))) (and-false (has left (maskOf t)))
+
+  -- the SID is left to look for
+  pub named : has left (e .mask) ≡ true → bitAnd (e .flags) 8 ≡ 0 → typeCounts type t ≡ true
+      → weighs type sids left t ≡ among (take (e .sid + e .«sid_len» - e .sid) (drop (e .sid) t)) sids
+  unfolding weighs counts
+  named h z k =
+      let n : e .sid + e .«sid_len» - e .sid ≡ sidLenOf t = omega (arith, ap (λ (x : Entry). x .«sid_len») q) in
+      let s : take (e .sid + e .«sid_len» - e .sid) (drop (e .sid) t) ≡ sidOf t =
+      ap₂ (λ (m at : ℕ). take m (drop at t)) n (ap (λ (x : Entry). x .sid) q) in
+      rw (ap (has left) (sym mask-is) ∙ h, eq-eqb (bitAnd (flagsOf t) 8) 0 (ap (λ (x : ℕ). bitAnd x 8) (sym flags-is) ∙ z), k, and-true (among (sidOf t) sids), s)
+
+  -- what it leaves
+  module _ (next : ℕ) where
+    pub passed-over : weighs type sids left t ≡ false → turnWith (leftAfter type sids left t) next ≡ On left next
+    unfolding turnWith leftAfter
+    passed-over h = rw h
+
+    module _ (w : weighs type sids left t ≡ true) where
+      pub allowed : isAllow (e .kind) ≡ true → turnWith (leftAfter type sids left t) next ≡ On (without left (e .mask)) next
+      unfolding turnWith leftAfter
+      allowed h = rw (w, ap isAllow (sym kind-is) ∙ h, mask-is)
+
+      pub denied : isAllow (e .kind) ≡ false → turnWith (leftAfter type sids left t) next ≡ Denied
+      unfolding turnWith leftAfter
+      denied h = rw (w, ap isAllow (sym kind-is) ∙ h)

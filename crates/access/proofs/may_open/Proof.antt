@@ -1,0 +1,126 @@
+-- By cases: a generic bit, no list, a list that is refused; then what is decided up to where the entries end. Assumes nothing.
+use borrow.Author.Needs.{needs}
+use native.Mathlib.Omega.{arith}
+use mathlib.Core.Path.{_≡_, refl, sym, ap, ap₂, subst, _∙_}
+use mathlib.Core.Bool.{Bool, true, false, not}
+use mathlib.Core.List.{List}
+use Prim.Native.Nat.{ℕ, suc, _+_, _≤_}
+use denote.Ref.{now}
+use lib.ListN.{length, take}
+use borrow.Author.Tests.{eq-eqb, ne-eqb, not-true, not-false}
+use lib.Bits.{bitAnd}
+use Rattle.list.specs.Bytes.{has}
+use Rattle.list.specs.Entry.{access}
+use Rattle.list.specs.List.{lent, entriesOf, checkOf}
+use Rattle.list.specs.declared.lists.Reading.the-variants.{Done, Refused}
+use Rattle.list.proofs.Answers.{checked}
+use Rattle.list.proofs.Places.{part-first}
+use Rattle.access.specs.Held.{heldOf}
+use Rattle.access.specs.Open.{Question, questionBy, opensBy}
+use Rattle.access.specs.Inner.Decide.{heldFault, toldBy, decidedFrom}
+use Rattle.access.proofs.Opens.{wants-generic, without-list, unread, read, decided-all}
+use Rattle.access.proofs.may_open.Statement.{statement}
+use Rattle.access.proofs.may_open.Tie as tie
+use Rattle.access.proofs.may_open.Reads as reads
+use Rattle.access.proofs.may_open.Lts as lts
+use Rattle.access.proofs.decide.decide.Reads as decide-reads
+use Rattle.access.proofs.held.held_fault.Reads as held-fault-reads
+use Rattle.access.proofs.told.Reads as told-reads
+use Rattle.list.proofs.check.Reads as check-reads
+use Rattle.list.proofs.part_of.Reads as part-of-reads
+
+abbrev asked : tie.Start → Question
+asked s = questionBy (s .args .given) (now (s .args .list)) (s .args .guid) (now (s .args .held)) (s .args .wanted)
+
+-- no generic bit is wanted
+specific : (c : tie.Else1) → has 0xF0000000 (c .before .before .before .args .wanted) ≡ false
+specific c = let e : bitAnd (c .before .before .before .args .wanted) 0xF0000000 ≡ 0 = c .if1 .left in rw (eq-eqb (bitAnd (c .before .before .before .args .wanted) 0xF0000000) 0 e)
+
+returns : tie.Need-returns
+returns c = sym (wants-generic (asked (c .before .before .before)) (ap not (ne-eqb _ 0 (c .if1 .taken))))
+
+held-fault-requires : tie.Need-held-fault-requires
+held-fault-requires c κs = search needs
+
+told-requires : tie.Need-told-requires
+told-requires c κs = search needs
+
+returns-2 : tie.Need-returns-2
+returns-2 c =
+    let k = c .before .before .before in
+    let s = k .before .before .before in
+    c .told .ensures
+    ∙ ap (λ (f : ℕ). toldBy f true) (c .before .held-fault .ensures)
+    ∙ sym (without-list (asked s) (specific k) (ap (λ (b : Bool). lent b (now (s .args .list))) (not-true (s .args .given) (c .before .before .if2 .taken))))
+
+check-requires : tie.Need-check-requires
+check-requires c κs = search needs
+
+enum-known-number : tie.Need-enum-known-number
+enum-known-number c = search needs
+
+enum-known-end : tie.Need-enum-known-end
+enum-known-end c = search needs
+
+cast-part-of : tie.Need-cast-part-of
+cast-part-of c = search needs
+
+part-of-requires : tie.Need-part-of-requires
+part-of-requires c κs = search needs
+
+held-fault-requires-2 : tie.Need-held-fault-requires-2
+held-fault-requires-2 c κs = search needs
+
+decide-requires : tie.Need-decide-requires
+decide-requires c κs = search needs
+
+told-requires-2 : tie.Need-told-requires-2
+told-requires-2 c κs = search needs
+
+returns-3 : tie.Need-returns-3
+returns-3 c =
+    let k = c .before in
+    let j = k .before .before in
+    let i = j .before .before in
+    let s = i .before .before .before in
+    sym (unread (asked s) (specific i) (now (s .args .list)) (ap (λ (b : Bool). lent b (now (s .args .list))) (not-false (s .args .given) (j .before .if2 .left))) _ _
+    (sym (checked _ (now (s .args .list)) (j .check .ensures)) ∙ k .number .given .1))
+
+returns-4 : tie.Need-returns-4
+returns-4 c =
+    let p = c .before .before .before in
+    let k = p .before .before in
+    let j = k .before .before in
+    let i = j .before .before in
+    let s = i .before .before .before in
+    let a = s .args in
+    let b = now (a .list) in
+    let x = k .end .given .0 .1 .1 .0 in
+    let e : checkOf access b ≡ Done (k .end .given .0 .0) (k .end .given .0 .1 .0) x = sym (checked _ b (j .check .ensures)) ∙ k .end .given .1 in
+    let t : now (p .part-of .result) ≡ take x b = p .part-of .ensures ∙ part-first x b in
+    let m = length (take x b) in
+    let h = heldOf (now (a .held)) in
+    let r : c .before .decide .result ≡ decidedFrom (suc m) (a .guid) h (a .wanted) (take x b) 8 =
+    subst (λ (u : List ℕ). (n : ℕ) → length u ≤ n + 8 → c .before .decide .result ≡ decidedFrom (suc n) (a .guid) h (a .wanted) u 8) t (c .before .decide .ensures) m (omega arith) in
+    c .told2 .ensures
+    ∙ ap₂ toldBy (c .before .before .held-fault2 .ensures) (r ∙ decided-all b _ _ x e (a .guid) h (a .wanted) m (s .fits .wanted .fits) (omega arith))
+    ∙ sym (read (asked s) (specific i) b (ap (λ (g : Bool). lent g b) (not-false (s .args .given) (j .before .if2 .left))) _ _ x e)
+
+pub may-open-spec : {M : Type 1} → statement M
+may-open-spec =
+    tie.close
+    (tie.spec
+    returns
+    held-fault-requires
+    told-requires
+    returns-2
+    check-requires
+    enum-known-number
+    enum-known-end
+    cast-part-of
+    part-of-requires
+    held-fault-requires-2
+    decide-requires
+    told-requires-2
+    returns-3
+    returns-4)

@@ -1,0 +1,3 @@
+-- What only private functions' contracts cite: no public promise rests on it.
+pub mod Decide
+pub mod Seek

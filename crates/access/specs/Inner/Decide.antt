@@ -1,0 +1,72 @@
+-- How the code decides: over the entries once, with the mask of the bits not yet decided.
+use Prim.Native.Nat.{ℕ, zero, suc}
+use mathlib.Core.List.{List, [], _∷_, flatten}
+use mathlib.Core.Bool.{Bool, true, false, not, cond, _&&_}
+use mathlib.Core.Option.{Option, none, some}
+use lib.ListN.{length, drop}
+use lib.Dec.{eqb, leb}
+use lib.Bits.{bitXor, bitAnd}
+use Rattle.list.specs.Order.{need}
+use Rattle.list.specs.Bytes.{has}
+use Rattle.list.specs.Entry.{kindOf, maskOf}
+use Rattle.access.specs.declared.Access.{Access}
+use Rattle.access.specs.declared.Access.the-variants.{Refused}
+use Rattle.access.specs.declared.steps.Found.{Found}
+use Rattle.access.specs.declared.steps.Found.the-variants.{At, End}
+use Rattle.access.specs.declared.decide.Turn.{Turn}
+use Rattle.access.specs.declared.decide.Turn.the-variants.{On, Denied}
+use Rattle.access.specs.Held.{heldOf, toEnd}
+use Rattle.access.specs.Open.{counts, isAllow, yesOrNo}
+use Rattle.access.specs.Walk.{stepAt}
+
+-- the number of a fault of the held bytes: 6, 7, or 0 where there is none
+unfoldable pub heldFault : List ℕ → ℕ
+heldFault h = need (toEnd h) 6 (need (leb (length (heldOf h)) 32) 7 0)
+
+-- the answer where the list has no fault
+unfoldable pub toldBy : ℕ → Bool → Access
+toldBy fault may = cond (eqb fault 0) (yesOrNo may) (Refused fault 0)
+
+-- a mask without the bits of another
+abbrev pub without : ℕ → ℕ → ℕ
+without a b = bitXor a (bitAnd a b)
+
+-- the entry counts, and has a bit that isn't decided yet
+unfoldable pub weighs : List ℕ → List (List ℕ) → ℕ → List ℕ → Bool
+weighs type sids left e = has left (maskOf e) && counts type sids e
+
+-- what is left to decide behind an entry: an allow decides its bits; none where a bit is denied
+unfoldable pub leftAfter : List ℕ → List (List ℕ) → ℕ → List ℕ → Option ℕ
+leftAfter type sids left e =
+    cond (weighs type sids left e) (cond (isAllow (kindOf e)) (some (without left (maskOf e))) none) (some left)
+
+unfoldable pub ifLeft : Option ℕ → (ℕ → Bool) → Bool
+ifLeft none rest = false
+ifLeft (some left) rest = rest left
+
+-- over entries: yes as soon as nothing is left
+unfoldable pub decided : List ℕ → List (List ℕ) → ℕ → List (List ℕ) → Bool
+decided type sids left [] = eqb left 0
+decided type sids left (e ∷ es) = cond (eqb left 0) true (ifLeft (leftAfter type sids left e) (λ l. decided type sids l es))
+
+-- over bytes: one step of the walk
+unfoldable pub turnWith : Option ℕ → ℕ → Turn
+turnWith none next = Denied
+turnWith (some left) next = On left next
+
+unfoldable pub turnBy : List ℕ → List (List ℕ) → ℕ → List ℕ → Found → Turn
+turnBy type sids left s (At at e next) = turnWith (leftAfter type sids left (drop at s)) next
+turnBy type sids left s End = Denied
+
+abbrev pub turnAt : List ℕ → List (List ℕ) → ℕ → List ℕ → ℕ → Turn
+turnAt type sids left s at = turnBy type sids left s (stepAt s at)
+
+unfoldable pub ifOn : Turn → (ℕ → ℕ → Bool) → Bool
+ifOn (On left next) rest = rest left next
+ifOn Denied rest = false
+
+-- at most n steps
+unfoldable pub decidedFrom : ℕ → List ℕ → List (List ℕ) → ℕ → List ℕ → ℕ → Bool
+decidedFrom zero type sids left s at = false
+decidedFrom (suc n) type sids left s at =
+    cond (eqb left 0) true (ifOn (turnAt type sids left s at) (λ l next. decidedFrom n type sids l s next))

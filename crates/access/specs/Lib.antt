@@ -1,0 +1,4 @@
+pub mod Held
+pub mod Open
+pub mod Walk
+pub mod Inner

@@ -1,0 +1,90 @@
+-- Who may open (RULES 6.2 to 6.5). An entry is its bytes.
+use Prim.Native.Nat.{ℕ, zero, suc, _^_}
+use mathlib.Core.List.{List, [], _∷_}
+use mathlib.Core.Bool.{Bool, true, false, not, cond, _&&_, _||_}
+use mathlib.Core.Option.{none, some}
+use lib.ListN.{length}
+use lib.Dec.{eqb, leb}
+use Rattle.list.specs.Order.{need}
+use Rattle.list.specs.Bytes.{has, among, sameBytes, guidAt}
+use Rattle.list.specs.Entry.{access, objectKind, kindOf, flagsOf, maskOf, wordOf, sidOf}
+use Rattle.list.specs.List.{MaybeList, lent, entriesOf, checkOf}
+use Rattle.list.specs.Answer.{Values, done, refused}
+use Rattle.list.specs.declared.lists.Reading.{Reading}
+use Rattle.list.specs.declared.lists.Reading.the-variants.{Done as Read, Refused as Unread}
+use Rattle.access.specs.declared.Access.{Access}
+use Rattle.access.specs.declared.Access.the-variants.{Yes, No, Refused}
+use Rattle.access.specs.Held.{heldOf, toEnd}
+
+-- a list or none, an object type, the SIDs that a person holds, laid end to end, and a wanted mask
+pub record Question : Type 0 where
+  pub list : MaybeList
+  pub type : List ℕ
+  pub held : List ℕ
+  pub wanted : ℕ
+
+-- the entry is IO, flag 08
+abbrev pub inheritOnly : List ℕ → Bool
+inheritOnly e = has 0x08 (flagsOf e)
+
+-- object entries count only without an ObjectType or with the given one
+unfoldable pub typeCounts : List ℕ → List ℕ → Bool
+typeCounts type e = cond (objectKind (kindOf e)) (not (has 1 (wordOf e)) || sameBytes (guidAt e 12) type) true
+
+-- the entry counts: it isn't IO and names one of the SIDs, and its type counts
+unfoldable pub counts : List ℕ → List (List ℕ) → List ℕ → Bool
+counts type sids e = not (inheritOnly e) && (among (sidOf e) sids && typeCounts type e)
+
+-- the entry is an allow, type 00 or 05, and no deny
+unfoldable pub isAllow : ℕ → Bool
+isAllow kind = eqb kind 0 || eqb kind 5
+
+-- the first entry that counts and has the bit is an allow; a bit that no entry speaks of is a no
+unfoldable pub granted : List ℕ → List (List ℕ) → ℕ → List (List ℕ) → Bool
+granted type sids bit [] = false
+granted type sids bit (e ∷ es) = cond (counts type sids e && has bit (maskOf e)) (isAllow (kindOf e)) (granted type sids bit es)
+
+-- a test holds of each of the n lowest bits
+unfoldable pub eachBit : ℕ → (ℕ → Bool) → Bool
+eachBit zero test = true
+eachBit (suc n) test = test (2 ^ n) && eachBit n test
+
+-- each wanted bit is granted
+unfoldable pub opensBy : List ℕ → List (List ℕ) → ℕ → List (List ℕ) → Bool
+opensBy type sids wanted es = eachBit 32 (λ bit. not (has bit wanted) || granted type sids bit es)
+
+-- an absent list is a yes
+unfoldable pub opens : Question → MaybeList → Bool
+opens q none = true
+opens q (some s) = opensBy (q .type) (heldOf (q .held)) (q .wanted) (entriesOf s)
+
+-- a list that is present reads as done, or its refusal is the answer
+unfoldable pub onRead : Reading → Access → Access
+onRead (Read len n end) rest = rest
+onRead (Unread k at) rest = Refused k at
+
+unfoldable pub readFirst : MaybeList → Access → Access
+readFirst none rest = rest
+readFirst (some s) rest = onRead (checkOf access s) rest
+
+abbrev pub yesOrNo : Bool → Access
+yesOrNo b = cond b Yes No
+
+-- the answer: 14, a generic bit wanted; then 1 to 5; then 6 where the held bytes aren't SIDs to their end; 7 for more than 32
+unfoldable pub mayOpenOf : Question → Access
+mayOpenOf q =
+    need (not (has 0xF0000000 (q .wanted))) (Refused 14 0)
+    (readFirst (q .list)
+    (need (toEnd (q .held)) (Refused 6 0)
+    (need (leb (length (heldOf (q .held))) 32) (Refused 7 0)
+    (yesOrNo (opens q (q .list))))))
+
+-- the numbers and values (RULES 4.2, 8.1) of each case of the answer: done, with 1 for yes and 0 for no in the place of the length
+abbrev pub accessValues : Access → Values
+accessValues Yes = done 1 0 0 0
+accessValues No = done 0 0 0 0
+accessValues (Refused k at) = refused k 0 at
+
+-- what the public call's arguments ask
+abbrev pub questionBy : Bool → List ℕ → List ℕ → List ℕ → ℕ → Question
+questionBy given list type held wanted = record { list = lent given list; type = type; held = held; wanted = wanted }
