@@ -1,12 +1,12 @@
 -- The held SIDs: one after the other, however they are counted; which bytes are SIDs to their end; and how the code counts and compares them.
-use mathlib.Core.Path.{_≡_, refl, sym, ap, _∙_}
+use mathlib.Core.Path.{_≡_, refl, sym, ap, ap₂, _∙_}
 use mathlib.Core.Bool.{Bool, true, false, cond, _||_}
 use mathlib.Core.List.{List, [], _∷_, _++_, append-assoc, append-nil, flatten}
-use Prim.Native.Nat.{ℕ, zero, suc, _+_, _≤_, _<_}
+use Prim.Native.Nat.{ℕ, zero, suc, _+_, _-_, _*_, _≤_, _<_}
 use native.Mathlib.Nat.{not-suc-le-zero}
 use native.Mathlib.Omega.{arith}
-use lib.ListN.{length, take, drop, length-append, length-drop, drop-of-length-le, take-append-drop}
-use lib.Seq.{drop-drop, drop-at, take-at, length-take-le}
+use lib.ListN.{length, getD, take, drop, length-append, length-drop, drop-of-length-le, take-append-drop}
+use lib.Seq.{getD-take, getD-drop, drop-drop, drop-at, take-at, length-take-le}
 use lib.Dec.{eqb, leb, ltb}
 use borrow.Author.Tests.{eq-eqb, ne-eqb, le-leb, lt-leb, lt-ltb, le-ltb, eqb-true}
 use Rattle.list.specs.Order.{need}
@@ -14,9 +14,9 @@ use Rattle.list.specs.Bytes.{sameBytes, among}
 use Rattle.list.specs.Identity.{isSid, wholeSid}
 use Rattle.list.specs.Good.{Every}
 use Rattle.list.proofs.Places.{split}
-use Rattle.list.proofs.Sids.{WholeSid, whole-short, whole-sid, whole-joined, OneSid, one-sid, sid-length}
+use Rattle.list.proofs.Sids.{same-no, whole-short, whole-sid, whole-says, whole-joined, one-sid, sid-length}
 use Rattle.access.specs.Held.{sidsIn, heldOf, toEnd}
-use Rattle.access.specs.Inner.Decide.{heldFault}
+use Rattle.access.specs.Inner.Decide.{heldFault, markOf}
 
 -- ---- one after the other
 
@@ -179,15 +179,71 @@ module _ (h : List ℕ) (at count : ℕ) (c : Counted h at count) where
 
 -- ---- comparing them
 
-module _ (s h : List ℕ) (at : ℕ) where
-  pub names-none : wholeSid (drop at h) ≡ 0 → among s (heldOf (drop at h)) ≡ false
-  unfolding among
-  names-none e = rw (held-none (drop at h) e)
+-- another byte at the mark's place, so another SID
+pub other-mark : (s h : List ℕ) (at end : ℕ) → at + 8 ≤ end → end ≤ length h → (getD h (end - 4) 0 ≡ markOf s → ⊥) → sameBytes (take (end - at) (drop at h)) s ≡ false
+other-mark s h at end p q f =
+    let a = take (end - at) (drop at h) in
+    let l : length a ≡ end - at = length-take-le (end - at) (drop at h) (omega (arith, length-drop at h)) in
+    let k : at + (length a - 4) ≡ end - 4 = omega (arith, l) in
+    let m : getD h (end - 4) 0 ≡ markOf a =
+    ap (λ (n : ℕ). getD h n 0) (sym k) ∙ sym (getD-take (end - at) (drop at h) (length a - 4) 0 (omega (arith, l)) ∙ getD-drop at h (length a - 4) 0) in
+    same-no a s (λ e. f (m ∙ ap markOf e))
 
-  pub names-end : length h ≤ at → among s (heldOf (drop at h)) ≡ false
-  names-end l = names-none (whole-short (drop at h) (omega (arith, length-drop at h)))
+-- none before `at` is s; those from there on are SIDs to their end
+pub record Looks (s h : List ℕ) (at : ℕ) : Type 0 where
+  pub within : at ≤ length h
+  pub same : among s (heldOf h) ≡ among s (heldOf (drop at h))
+  pub rest : at + length (flatten (heldOf (drop at h))) ≡ length h
 
-  pub names-more : 0 < wholeSid (drop at h)
-      → among s (heldOf (drop at h)) ≡ (sameBytes (take (wholeSid (drop at h)) (drop at h)) s || among s (heldOf (drop (at + wholeSid (drop at h)) h)))
+pub looks-none : (s h : List ℕ) → toEnd h ≡ true → Looks s h 0
+looks-none s h e = record { within = omega arith; same = refl; rest = omega (arith, eqb-true (length (flatten (heldOf h))) (length h) e) }
+
+module _ (s h : List ℕ) (at : ℕ) (k : Looks s h at) where
+  pub looks-end : length h ≤ at → among s (heldOf h) ≡ false
   unfolding among
-  names-more p = rw (held-more (drop at h) p, drop-drop (wholeSid (drop at h)) at h)
+  looks-end l = k .same ∙ ap (among s) (held-none (drop at h) (whole-short (drop at h) (omega (arith, length-drop at h))))
+
+  module _ (some : at < length h) where
+    here : 0 < wholeSid (drop at h)
+    unfolding flatten
+    here = by-whole (drop at h) (λ e. absurd (omega (arith, k .rest, ap (λ (x : List (List ℕ)). length (flatten x)) (held-none (drop at h) e)))) (λ p. p)
+
+    -- the next one, by its second byte
+    pub record Next (end : ℕ) : Type 0 where
+      pub long : at + 8 ≤ end
+      pub inside : end ≤ length h
+      pub is : end - at ≡ wholeSid (drop at h)
+
+    pub looks-next : Next (at + 8 + 4 * getD h (at + 1) 0)
+    looks-next =
+        let t = drop at h in
+        let w = whole-sid t here in
+        let e : wholeSid t ≡ 8 + 4 * getD h (at + 1) 0 = whole-says t here ∙ ap (λ (n : ℕ). 8 + 4 * n) (getD-drop at h 1 0) in
+        record { long = omega arith; inside = omega (arith, e, w .most, length-drop at h); is = omega (arith, e) }
+
+    module _ (end : ℕ) (n : Next end) where
+      rest-of : among s (heldOf (drop at h)) ≡ (sameBytes (take (end - at) (drop at h)) s || among s (heldOf (drop end h)))
+      unfolding among
+      rest-of =
+          let t = drop at h in
+          let m : at + wholeSid t ≡ end = omega (arith, n .is, n .long) in
+          ap (among s) (held-more t here)
+          ∙ ap₂ (λ (x : ℕ) (u : List ℕ). sameBytes (take x t) s || among s (heldOf u)) (sym (n .is)) (drop-drop (wholeSid t) at h ∙ ap (λ (x : ℕ). drop x h) m)
+
+      pub looks-found : sameBytes (take (end - at) (drop at h)) s ≡ true → among s (heldOf h) ≡ true
+      looks-found e = k .same ∙ rest-of ∙ ap (λ (b : Bool). b || among s (heldOf (drop end h))) e
+
+      pub looks-more : sameBytes (take (end - at) (drop at h)) s ≡ false → Looks s h end
+      unfolding flatten
+      looks-more e =
+          let t = drop at h in
+          let m : at + wholeSid t ≡ end = omega (arith, n .is, n .long) in
+          let d : drop (wholeSid t) t ≡ drop end h = drop-drop (wholeSid t) at h ∙ ap (λ (x : ℕ). drop x h) m in
+          let w = whole-sid t here in
+          let f : length (flatten (heldOf t)) ≡ length (take (wholeSid t) t ++ flatten (heldOf (drop end h))) =
+          ap (λ (x : List (List ℕ)). length (flatten x)) (held-more t here) ∙ ap (λ (u : List ℕ). length (take (wholeSid t) t ++ flatten (heldOf u))) d in
+          record {
+            within = n .inside;
+            same = k .same ∙ rest-of ∙ ap (λ (b : Bool). b || among s (heldOf (drop end h))) e;
+            rest = omega (arith, k .rest, f, length-append (take (wholeSid t) t) (flatten (heldOf (drop end h))), length-take-le (wholeSid t) t (w .most));
+          }

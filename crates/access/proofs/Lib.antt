@@ -7,4 +7,5 @@ pub mod Bitwise
 pub mod Wanted
 pub mod Decides
 pub mod Opens
+pub mod Small
 pub mod Theorems

@@ -8,6 +8,7 @@ use native.Mathlib.Omega.{arith}
 use lib.ListN.{length, take}
 use lib.Seq.{length-take-le}
 use lib.Dec.{leb}
+use borrow.Author.Tests.{ne-eqb}
 use Rattle.list.specs.Order.{need}
 use Rattle.list.specs.Bytes.{has}
 use Rattle.list.specs.Entry.{access}
@@ -40,6 +41,20 @@ told-is h b = by (toEnd h) (leb (length (heldOf h)) 32)
     by true true = refl
     by true false = refl
     by false y = refl
+
+-- a fault is told whatever else would be
+pub fault-told : (f : ℕ) (a b : Bool) → (f ≡ 0 → ⊥) → toldBy f a ≡ toldBy f b
+unfolding toldBy
+fault-told f a b h = rw (ne-eqb f 0 h)
+
+-- and where they have no fault they are SIDs to their end
+pub no-fault : (h : List ℕ) → heldFault h ≡ 0 → toEnd h ≡ true
+unfolding heldFault need
+no-fault h = by (toEnd h)
+  where
+    by : (x : Bool) → _≡_ {A = ℕ} (need x 6 (need (leb (length (heldOf h)) 32) 7 0)) 0 → x ≡ true
+    by true e = refl
+    by false e = absurd (omega arith)
 
 module _ (q : Question) where
   pub wants-generic : has 0xF0000000 (q .wanted) ≡ true → mayOpenOf q ≡ Refused 14 0

@@ -9,11 +9,20 @@ use lib.ListN.{take, drop}
 use lib.Bits.{bitAnd}
 use borrow.Author.Tests.{eq-eqb, ne-eqb}
 use Rattle.list.specs.Bytes.{has, among, sameBytes, guidAt}
-use Rattle.list.specs.Entry.{objectKind, wordOf, kindOf, flagsOf, maskOf, sidAt, sidLenOf, sidOf, fieldsOf}
+use Rattle.list.specs.Entry.{access, objectKind, wordOf, kindOf, flagsOf, maskOf, sidAt, sidLenOf, sidOf, fieldsOf}
+use Rattle.list.specs.Good.{Sound}
 use Rattle.list.specs.declared.entries.Entry.{Entry}
+use Rattle.list.proofs.Sids.{sid-length}
+use Rattle.list.proofs.Remade.{bounds}
 use Rattle.access.specs.declared.decide.Turn.the-variants.{On, Denied}
 use Rattle.access.specs.Open.{typeCounts, counts, isAllow}
-use Rattle.access.specs.Inner.Decide.{without, weighs, leftAfter, turnWith}
+use Rattle.access.specs.Inner.Decide.{SidIn, without, weighs, leftAfter, turnWith}
+
+-- the SID of a good entry lies in what the entry begins
+pub sid-in : (rev : ℕ) (t : List ℕ) → Sound access rev t → SidIn t
+sid-in rev t s =
+    let b = bounds access rev t s in
+    record { inside = omega (arith, b .sid, b .inside); eight = sid-length (drop (sidAt t) t) (s .sid) .least }
 
 -- whether its type counts: no object entry; no ObjectType; else that is compared
 module _ (type t : List ℕ) where

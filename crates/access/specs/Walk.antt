@@ -6,6 +6,7 @@ use lib.ListN.{take, drop}
 use lib.Dec.{leb}
 use Rattle.list.specs.Entry.{access, sizeOf, fieldsOf, entryOf}
 use Rattle.list.specs.List.{revOf, entriesOf, checkOf}
+use Rattle.list.specs.Answer.{Values, done, refused}
 use Rattle.list.specs.declared.entries.Checked.{Checked}
 use Rattle.list.specs.declared.entries.Checked.the-variants.{Good, Bad}
 use Rattle.list.specs.declared.lists.Reading.{Reading}
@@ -37,6 +38,15 @@ onWalk (Unread k at) found = Refused k at
 
 abbrev pub pointedOf : List ℕ → ℕ → Pointed
 pointedOf s place = onWalk (checkOf access s) (firstFrom place (walkThrough s))
+
+-- the numbers and values (RULES 4.2, 8.1) of each case of the answer: done, with where the entry begins in the place of the length, present; zeros where none is left
+abbrev pub foundValues : Found → Values
+foundValues (At at e next) = done at 1 0 0
+foundValues End = done 0 0 0 0
+
+abbrev pub pointedValues : Pointed → Values
+pointedValues (Done found) = foundValues found
+pointedValues (Refused k at) = refused k 0 at
 
 -- ---- the walker
 

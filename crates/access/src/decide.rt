@@ -1,13 +1,13 @@
 // Over a list's entries once, with the mask of the bits not yet decided.
 ghost use mathlib.Core.Path.{_≡_};
+ghost use mathlib.Core.Bool.{true};
 ghost use Prim.Native.Nat.{ℕ, suc, _+_, _≤_};
 ghost use lib.ListN.{length};
 ghost use Rattle.list.specs.Bytes.{has as Bytes·has};
 ghost use Rattle.list.specs.Entry.{access, kindOf, wordOf, fieldsOf};
-ghost use Rattle.list.specs.Good.{Bounds};
-ghost use Rattle.access.specs.Held.{heldOf};
+ghost use Rattle.access.specs.Held.{heldOf, toEnd};
 ghost use Rattle.access.specs.Open.{typeCounts, isAllow};
-ghost use Rattle.access.specs.Inner.Decide.{weighs as Decide·weighs, leftAfter, turnWith, turnAt, decidedFrom};
+ghost use Rattle.access.specs.Inner.Decide.{SidIn, weighs as Decide·weighs, leftAfter, turnWith, turnAt, decidedFrom};
 use crate::held::names;
 use crate::steps::Found;
 use crate::steps::step_at;
@@ -50,7 +50,7 @@ fn type_counts(t: &[u8], kind: u8, word: u32, guid: [u8; 16]) -> bool
 
 // Whether the entry that `t` begins with counts and has a bit that isn't decided yet.
 fn weighs(t: &[u8], e: Entry, guid: [u8; 16], held: &[u8], left: u32) -> bool
-    requires { ⌜ (e ≡ fieldsOf (now t)) × Bounds (now t) ⌝ }
+    requires { ⌜ (e ≡ fieldsOf (now t)) × SidIn (now t) × (toEnd (now held) ≡ true) ⌝ }
     ensures { λ r. ⌜ r ≡ Decide·weighs guid (heldOf (now (held .entry))) left (now (t .entry)) ⌝ }
 {
     if !has(e.mask, left) {
@@ -69,7 +69,7 @@ fn weighs(t: &[u8], e: Entry, guid: [u8; 16], held: &[u8], left: u32) -> bool
 
 // What the entry that `t` begins with leaves to decide; the next one begins at `next`.
 fn turn_past(t: &[u8], e: Entry, next: usize, guid: [u8; 16], held: &[u8], left: u32) -> Turn
-    requires { ⌜ (e ≡ fieldsOf (now t)) × Bounds (now t) ⌝ }
+    requires { ⌜ (e ≡ fieldsOf (now t)) × SidIn (now t) × (toEnd (now held) ≡ true) ⌝ }
     ensures { λ r. ⌜ r ≡ turnWith (leftAfter guid (heldOf (now (held .entry))) left (now (t .entry))) next ⌝ }
 {
     if !weighs(t, e, guid, held, left) {
@@ -86,6 +86,7 @@ fn turn_past(t: &[u8], e: Entry, next: usize, guid: [u8; 16], held: &[u8], left:
 
 // One step of the walk.
 fn take_turn(entries: &[u8], at: usize, guid: [u8; 16], held: &[u8], left: u32) -> Turn
+    requires { ⌜ toEnd (now held) ≡ true ⌝ }
     ensures { λ r. ⌜ r ≡ turnAt guid (heldOf (now (held .entry))) left (now (entries .entry)) at ⌝ }
 {
     match step_at(entries, at) {
@@ -100,6 +101,7 @@ fn take_turn(entries: &[u8], at: usize, guid: [u8; 16], held: &[u8], left: u32) 
 
 // Whether each wanted bit is granted: it stops as soon as that is decided.
 pub(crate) fn decide(entries: &[u8], guid: [u8; 16], held: &[u8], wanted: u32) -> bool
+    requires { ⌜ toEnd (now held) ≡ true ⌝ }
     ensures { λ r. ⌜ ((n : ℕ) → length (now (entries .entry)) ≤ n + 8 → r ≡ decidedFrom (suc n) guid (heldOf (now (held .entry))) wanted (now (entries .entry)) 8) ⌝ }
 {
     let mut left = wanted;

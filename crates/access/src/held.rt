@@ -1,8 +1,11 @@
 // The SIDs that a person holds, laid end to end: they are compared where they lie.
 ghost use mathlib.Core.Path.{_≡_};
-ghost use Rattle.list.specs.Bytes.{among};
-ghost use Rattle.access.specs.Held.{heldOf};
-ghost use Rattle.access.specs.Inner.Decide.{heldFault};
+ghost use mathlib.Core.Bool.{true};
+ghost use Prim.Native.Nat.{_+_, _-_, _≤_};
+ghost use lib.ListN.{length, take, drop};
+ghost use Rattle.list.specs.Bytes.{sameBytes, among};
+ghost use Rattle.access.specs.Held.{heldOf, toEnd};
+ghost use Rattle.access.specs.Inner.Decide.{heldFault, markOf};
 use list::same_bytes;
 use list::sid_in;
 
@@ -28,18 +31,27 @@ pub(crate) fn held_fault(held: &[u8]) -> u8
     0
 }
 
+// Whether the held SID from `at` to `end` is that one. `mark` is the first byte of its last number, in which SIDs of one domain differ.
+fn is_named(held: &[u8], at: usize, end: usize, sid: &[u8], mark: u8) -> bool
+    requires { ⌜ (at + 8 ≤ end) × (end ≤ length (now held)) × (mark ≡ markOf (now sid)) ⌝ }
+    ensures { λ r. ⌜ r ≡ sameBytes (take (end - at) (drop at (now (held .entry)))) (now (sid .entry)) ⌝ }
+{
+    if held[end - 4] != mark {
+        return false;
+    }
+    same_bytes(&held[at..end], sid)
+}
+
 // Whether a SID is among them.
 pub(crate) fn names(sid: &[u8], held: &[u8]) -> bool
+    requires { ⌜ (8 ≤ length (now sid)) × (toEnd (now held) ≡ true) ⌝ }
     ensures { λ r. ⌜ r ≡ among (now (sid .entry)) (heldOf (now (held .entry))) ⌝ }
 {
+    let mark = sid[sid.len() - 4];
     let mut at: usize = 0;
     while at < held.len() {
-        let len = sid_in(held, at);
-        if len == 0 {
-            return false;
-        }
-        let end = at + len;
-        if same_bytes(&held[at..end], sid) {
+        let end = at + 8 + 4 * (held[at + 1] as usize);
+        if is_named(held, at, end, sid, mark) {
             return true;
         }
         at = end;

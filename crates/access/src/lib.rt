@@ -68,8 +68,12 @@ pub fn may_open(given: bool, list: &[u8], guid: [u8; 16], held: &[u8], wanted: u
             count: _,
             end,
         } => {
+            let fault = held_fault(held);
+            if fault != 0 {
+                return told(fault, false);
+            }
             let entries = list::part_of(list, 0, end as usize);
-            told(held_fault(held), decide(entries, guid, held, wanted))
+            told(0, decide(entries, guid, held, wanted))
         }
     }
 }

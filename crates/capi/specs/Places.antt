@@ -1,9 +1,9 @@
 -- The eight 32-bit numbers in which a call answers, and arguments that are passed as numbers.
-use Prim.Native.Nat.{ℕ}
+use Prim.Native.Nat.{ℕ, _^_, _<_}
 use mathlib.Core.Path.{_≡_}
 use mathlib.Core.List.{List, [], _∷_}
 use mathlib.Core.Bool.{Bool, not}
-use lib.ListN.{length, getD}
+use lib.ListN.{length, getD, replicate}
 use lib.Dec.{eqb}
 use Rattle.list.specs.List.{lent}
 use Rattle.list.specs.Bytes.{has}
@@ -13,6 +13,10 @@ use Rattle.inherit.specs.Compute.{computeOf, outOf}
 use Rattle.inherit.specs.declared.Settings.{Settings}
 use Rattle.inherit.specs.declared.Mapping.{Mapping}
 use Rattle.tree.specs.Calls.{New}
+use Rattle.access.specs.declared.steps.Found.{Found}
+use Rattle.access.specs.declared.steps.Found.the-variants.{At, End}
+use Rattle.access.specs.declared.Pointed.{Pointed}
+use Rattle.access.specs.declared.Pointed.the-variants.{Done, Refused}
 
 -- the values of an answer in their places (RULES 8.1)
 abbrev pub placesOf : Values → List ℕ
@@ -56,3 +60,18 @@ newOf parent traits type owner group list =
       group = group;
       list = lent (has 4 traits) list;
     }
+
+-- the eight numbers of an entry in a walk: type, flags, size, mask, object word (0 where it has none), where its SID begins counted from the entry, the
+-- SID's length, the place of what follows it; zeros where none is left or the list is refused
+abbrev pub foundPlaces : Found → List ℕ
+foundPlaces (At at e next) = e .kind ∷ e .flags ∷ e .size ∷ e .mask ∷ e .word ∷ e .sid ∷ e .«sid_len» ∷ next ∷ []
+foundPlaces End = replicate 8 0
+
+abbrev pub entryPlaces : Pointed → List ℕ
+entryPlaces (Done found) = foundPlaces found
+entryPlaces (Refused k at) = replicate 8 0
+
+-- what a walk tells fits 32 bits: private functions ask for it
+abbrev pub Told32 : Found → Type 0
+Told32 (At at e next) = (at < 2 ^ 32) × (e .size < 2 ^ 32) × (e .sid < 2 ^ 32) × (e .«sid_len» < 2 ^ 32) × (next < 2 ^ 32)
+Told32 End = Unit

@@ -6,12 +6,17 @@ ghost use Rattle.list.specs.Identity.{identityOf};
 ghost use Rattle.list.specs.Entry.{access};
 ghost use Rattle.list.specs.List.{readOf, rowBy, lent};
 ghost use Rattle.list.specs.Answer.{readValues};
+ghost use Rattle.access.specs.Open.{mayOpenOf, accessValues, questionBy};
+ghost use Rattle.access.specs.Walk.{foundValues, pointedValues, pointedOf};
 ghost use Rattle.inherit.specs.Compute.{askedBy};
 ghost use Rattle.tree.specs.Held.{yes};
 ghost use Rattle.tree.specs.Room.{roomOf};
 ghost use Rattle.tree.specs.Calls.{list as Edit·list, mark as Edit·mark, owners as Edit·owners, answerValues as Calls·valuesOf, objectFor, startTo, addTo, alterTo, undoTo, listTo, ownTo, dataTo, countsTo};
 ghost use Rattle.script.specs.Play.{playTo};
-ghost use Rattle.capi.specs.Places.{placesOf, settingsOf, mappingFrom, yesOf, newOf, Computes};
+ghost use Rattle.capi.specs.Places.{placesOf, settingsOf, mappingFrom, yesOf, newOf, Computes, foundPlaces, entryPlaces, Told32};
+use access::Access;
+use access::Found;
+use access::Pointed;
 use inherit::Computed;
 use inherit::Mapping;
 use inherit::Settings;
@@ -98,6 +103,76 @@ pub extern "C" fn pt_read(list: &[u8], row: &mut [u16], answer: &mut [u32; 8])
             end as u32,
         ),
         Reading::Refused { number, at } => put_values(
+            answer,
+            number as u32,
+            0,
+            at as u32,
+            0,
+            0,
+            0,
+            0,
+            0,
+        ),
+    }
+}
+
+// What a walk has found: the entry's numbers, and the answer.
+fn put_found(entry: &mut [u32; 8], answer: &mut [u32; 8], found: Found)
+    requires { ⌜ Told32 found ⌝ }
+    ensures { λ _. ⌜ (now (entry .exit) ≡ foundPlaces found) × (now (answer .exit) ≡ placesOf (foundValues found)) ⌝ }
+{
+    match found {
+        Found::At { at, entry: e, next } => {
+            *entry = [
+                e.kind as u32,
+                e.flags as u32,
+                e.size as u32,
+                e.mask,
+                e.word,
+                e.sid as u32,
+                e.sid_len as u32,
+                next as u32,
+            ];
+            put_values(answer, 0, 0, 0, at as u32, 1, 0, 0, 0);
+        }
+        Found::End => {
+            *entry = [0; 8];
+            put_values(answer, 0, 0, 0, 0, 0, 0, 0, 0);
+        }
+    }
+}
+
+// The first entry that begins at or after a place: a viewer's walk.
+#[no_mangle]
+pub extern "C" fn pt_step(list: &[u8], place: u32, entry: &mut [u32; 8], answer: &mut [u32; 8])
+    ensures answer { λ _. ⌜ now (answer .exit) ≡ placesOf (pointedValues (pointedOf (now (list .entry)) place)) ⌝ }
+    ensures entry { λ _. ⌜ now (entry .exit) ≡ entryPlaces (pointedOf (now (list .entry)) place) ⌝ }
+{
+    match access::step_from(list, place as usize) {
+        Pointed::Done(found) => put_found(entry, answer, found),
+        Pointed::Refused { number, at } => {
+            *entry = [0; 8];
+            put_values(answer, number as u32, 0, at as u32, 0, 0, 0, 0, 0);
+        }
+    }
+}
+
+// Whether a person may open an object: the SIDs held, laid end to end, and the wanted mask.
+#[no_mangle]
+pub extern "C" fn pt_may_open(
+    given: u32,
+    list: &[u8],
+    kind: &[u8; 16],
+    held: &[u8],
+    wanted: u32,
+    answer: &mut [u32; 8],
+)
+    ensures { λ _. ⌜ now (answer .exit) ≡ placesOf (accessValues (mayOpenOf (questionBy (yesOf given) (now (list .entry)) (now (kind .entry)) (now (held .entry)) wanted))) ⌝ }
+{
+    match access::may_open(given != 0, list, *kind, held, wanted) {
+        Access::Yes => put_values(answer, 0, 0, 0, 1, 0, 0, 0, 0),
+        Access::No => put_values(answer, 0, 0, 0, 0, 0, 0, 0, 0),
+        Access::Refused { number, at } => put_values(
             answer,
             number as u32,
             0,

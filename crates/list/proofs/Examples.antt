@@ -3,9 +3,9 @@ use mathlib.Core.Path.{_≡_, refl}
 use mathlib.Core.Bool.{true, false}
 use mathlib.Core.List.{List, [], _∷_, _++_, map}
 use Prim.Native.Nat.{ℕ}
-use lib.ListN.{replicate}
-use Rattle.list.specs.Bytes.{le, spell, sameBytes, part, putOn, putAt, guidAt}
-use Rattle.list.specs.Identity.{sidLen, isSid, placeholderOf, identityOf, bytesOf, placeholderSid, madeOf}
+use lib.ListN.{take, replicate}
+use Rattle.list.specs.Bytes.{le, spell, has, sameBytes, among, part, putOn, putAt, guidAt}
+use Rattle.list.specs.Identity.{sidLen, wholeSid, isSid, placeholderOf, identityOf, bytesOf, placeholderSid, madeOf}
 use Rattle.list.specs.Order.{need}
 use Rattle.list.specs.Entry.{access, plainOf, objectOf, objectKind, kindOk, flagsOk, headOf, wordAfter, tailOk, entryOf}
 use Rattle.list.specs.List.{revOk, headerOk, onGood, walkOf, finish, checkOf, withRow, readOf, offsets, rowBy, cut, entriesOf}
@@ -101,6 +101,17 @@ pub bytes-worked :
 unfolding le spell part putOn putAt
 bytes-worked = (refl, (refl, (refl, (refl, (refl, (refl, (refl, (refl, refl))))))))
 
+-- bits of a number, any of several; and bytes that are one of several, whole
+pub tests-worked :
+    (has 0x08 0x18 ≡ true)
+    × ((has 0x08 0x17 ≡ false)
+    × ((has 0xF0000000 0x20000001 ≡ true)
+    × ((has 0xF0000000 0x0FFFFFFF ≡ false)
+    × ((among (1 ∷ 2 ∷ []) ((1 ∷ []) ∷ (1 ∷ 2 ∷ []) ∷ []) ≡ true)
+    × ((among (1 ∷ 2 ∷ []) ((1 ∷ 2 ∷ 3 ∷ []) ∷ (2 ∷ 1 ∷ []) ∷ (1 ∷ []) ∷ []) ≡ false) × (among [] [] ≡ false))))))
+unfolding among sameBytes
+tests-worked = (refl, (refl, (refl, (refl, (refl, (refl, refl))))))
+
 -- ---- identities (RULES 1.2, 1.3): S-1-5-18, the two placeholders in their bytes, and what comes near them
 
 abbrev system : List ℕ
@@ -112,6 +123,13 @@ creators k = 0x01 ∷ 0x01 ∷ 0 ∷ 0 ∷ 0 ∷ 0 ∷ 0 ∷ 0x03 ∷ k ∷ 0 �
 pub lengths-worked : map sidLen (system ∷ (1 ∷ 0 ∷ []) ∷ (1 ∷ 15 ∷ []) ∷ (1 ∷ 16 ∷ []) ∷ (2 ∷ 0 ∷ []) ∷ (0 ∷ 0 ∷ []) ∷ [] ∷ []) ≡ 12 ∷ 8 ∷ 68 ∷ 0 ∷ 0 ∷ 0 ∷ 0 ∷ []
 unfolding sidLen
 lengths-worked = refl
+
+-- held whole, with a byte behind it, cut by one byte, of no number
+pub whole-worked :
+    map wholeSid (system ∷ (system ++ (9 ∷ [])) ∷ take 11 system ∷ (0x01 ∷ 0x00 ∷ 0 ∷ 0 ∷ 0 ∷ 0 ∷ 0 ∷ 0 ∷ []) ∷ (0x01 ∷ 0x00 ∷ 0 ∷ 0 ∷ 0 ∷ 0 ∷ 0 ∷ []) ∷ (0x02 ∷ replicate 20 0) ∷ [] ∷ [])
+    ≡ 12 ∷ 12 ∷ 0 ∷ 8 ∷ 0 ∷ 0 ∷ 0 ∷ []
+unfolding wholeSid sidLen
+whole-worked = refl
 
 pub identities-worked :
     map identityOf (system ∷ creators 0 ∷ creators 1 ∷ creators 2 ∷ (creators 0 ++ (0 ∷ [])) ∷ (0x01 ∷ 0x01 ∷ 0 ∷ 0 ∷ 0 ∷ 0 ∷ 0 ∷ 0x03 ∷ 0 ∷ 0 ∷ 0 ∷ []) ∷ [] ∷ [])

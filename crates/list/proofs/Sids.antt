@@ -141,6 +141,21 @@ whole-sid s h = split (sidLen s) (length s) there (λ l. absurd (omega (arith, w
           is = rw (e, q, n, lt-ltb 0 (sidLen s) (omega (arith, z)), eq-eqb (sidLen s) (sidLen s) refl);
         }
 
+-- its second byte says how long it is
+number-says : (s : List ℕ) → 0 < sidLen s → sidLen s ≡ 8 + 4 * getD s 1 0
+unfolding sidLen
+number-says s = by (eqb (getD s 0 0) 1 && leb (getD s 1 0) 15)
+  where
+    by : (b : Bool) → 0 < cond b (8 + 4 * getD s 1 0) 0 → cond b (8 + 4 * getD s 1 0) 0 ≡ 8 + 4 * getD s 1 0
+    by true h = refl
+    by false h = absurd (omega arith)
+
+pub whole-says : (s : List ℕ) → 0 < wholeSid s → wholeSid s ≡ 8 + 4 * getD s 1 0
+whole-says s h =
+    split (sidLen s) (length s)
+    (λ l. let e = whole-there s l in e ∙ number-says s (omega (arith, e)))
+    (λ l. absurd (omega (arith, whole-cut s l)))
+
 -- exactly one SID
 pub record OneSid (s : List ℕ) : Type 0 where
   pub some : 0 < sidLen s

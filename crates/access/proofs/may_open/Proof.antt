@@ -1,24 +1,24 @@
--- By cases: a generic bit, no list, a list that is refused; then what is decided up to where the entries end. Assumes nothing.
+-- By cases: a generic bit, no list, a list that is refused, a fault of the held bytes; then what is decided up to where the entries end. Assumes nothing.
 use borrow.Author.Needs.{needs}
 use native.Mathlib.Omega.{arith}
-use mathlib.Core.Path.{_≡_, refl, sym, ap, ap₂, subst, _∙_}
+use mathlib.Core.Path.{_≡_, sym, ap, ap₂, subst, _∙_}
 use mathlib.Core.Bool.{Bool, true, false, not}
 use mathlib.Core.List.{List}
 use Prim.Native.Nat.{ℕ, suc, _+_, _≤_}
 use denote.Ref.{now}
 use lib.ListN.{length, take}
-use borrow.Author.Tests.{eq-eqb, ne-eqb, not-true, not-false}
 use lib.Bits.{bitAnd}
+use borrow.Author.Tests.{eq-eqb, ne-eqb, not-true, not-false}
 use Rattle.list.specs.Bytes.{has}
 use Rattle.list.specs.Entry.{access}
 use Rattle.list.specs.List.{lent, entriesOf, checkOf}
-use Rattle.list.specs.declared.lists.Reading.the-variants.{Done, Refused}
+use Rattle.list.specs.declared.lists.Reading.the-variants.{Done}
 use Rattle.list.proofs.Answers.{checked}
 use Rattle.list.proofs.Places.{part-first}
 use Rattle.access.specs.Held.{heldOf}
-use Rattle.access.specs.Open.{Question, questionBy, opensBy}
+use Rattle.access.specs.Open.{Question, questionBy, opensBy, mayOpenOf}
 use Rattle.access.specs.Inner.Decide.{heldFault, toldBy, decidedFrom}
-use Rattle.access.proofs.Opens.{wants-generic, without-list, unread, read, decided-all}
+use Rattle.access.proofs.Opens.{wants-generic, without-list, unread, read, fault-told, no-fault, decided-all}
 use Rattle.access.proofs.may_open.Statement.{statement}
 use Rattle.access.proofs.may_open.Tie as tie
 use Rattle.access.proofs.may_open.Reads as reads
@@ -34,7 +34,27 @@ asked s = questionBy (s .args .given) (now (s .args .list)) (s .args .guid) (now
 
 -- no generic bit is wanted
 specific : (c : tie.Else1) → has 0xF0000000 (c .before .before .before .args .wanted) ≡ false
-specific c = let e : bitAnd (c .before .before .before .args .wanted) 0xF0000000 ≡ 0 = c .if1 .left in rw (eq-eqb (bitAnd (c .before .before .before .args .wanted) 0xF0000000) 0 e)
+specific c =
+    let w = c .before .before .before .args .wanted in
+    let e : bitAnd w 0xF0000000 ≡ 0 = c .if1 .left in
+    rw (eq-eqb (bitAnd w 0xF0000000) 0 e)
+
+-- ---- a list that reads as done
+
+abbrev at-start : tie.After-end → tie.Start
+at-start c = c .before .before .before .before .before .before .before
+
+read-here : (c : tie.After-end) → checkOf access (now (at-start c .args .list)) ≡ Done (c .end .given .0 .0) (c .end .given .0 .1 .0) (c .end .given .0 .1 .1 .0)
+read-here c = sym (checked _ (now (at-start c .args .list)) (c .before .before .check .ensures)) ∙ c .end .given .1
+
+abbrev opened : tie.Start → Bool
+opened s = opensBy (s .args .guid) (heldOf (now (s .args .held))) (s .args .wanted) (entriesOf (now (s .args .list)))
+
+answered : (c : tie.After-end) → mayOpenOf (asked (at-start c)) ≡ toldBy (heldFault (now (at-start c .args .held))) (opened (at-start c))
+answered c =
+    let i = c .before .before .before in
+    let s = at-start c in
+    read (asked s) (specific (i .before)) (now (s .args .list)) (ap (λ (b : Bool). lent b (now (s .args .list))) (not-false (s .args .given) (i .if2 .left))) _ _ _ (read-here c)
 
 returns : tie.Need-returns
 returns c = sym (wants-generic (asked (c .before .before .before)) (ap not (ne-eqb _ 0 (c .if1 .taken))))
@@ -62,23 +82,38 @@ enum-known-number c = search needs
 enum-known-end : tie.Need-enum-known-end
 enum-known-end c = search needs
 
-cast-part-of : tie.Need-cast-part-of
-cast-part-of c = search needs
-
-part-of-requires : tie.Need-part-of-requires
-part-of-requires c κs = search needs
-
 held-fault-requires-2 : tie.Need-held-fault-requires-2
 held-fault-requires-2 c κs = search needs
-
-decide-requires : tie.Need-decide-requires
-decide-requires c κs = search needs
 
 told-requires-2 : tie.Need-told-requires-2
 told-requires-2 c κs = search needs
 
 returns-3 : tie.Need-returns-3
 returns-3 c =
+    let f = c .before .before in
+    let k = f .before .before in
+    let b = opened (at-start k) in
+    c .told2 .ensures
+    ∙ fault-told (f .held-fault2 .result) false b (c .before .if3 .taken)
+    ∙ ap (λ (n : ℕ). toldBy n b) (f .held-fault2 .ensures)
+    ∙ sym (answered k)
+
+cast-part-of : tie.Need-cast-part-of
+cast-part-of c = search needs
+
+part-of-requires : tie.Need-part-of-requires
+part-of-requires c κs = search needs
+
+decide-requires : tie.Need-decide-requires
+decide-requires c κs =
+    let f = c .before .before in
+    no-fault (now (at-start (f .before .before) .args .held)) (sym (f .held-fault2 .ensures) ∙ c .before .if3 .left)
+
+told-requires-3 : tie.Need-told-requires-3
+told-requires-3 c κs = search needs
+
+returns-4 : tie.Need-returns-4
+returns-4 c =
     let k = c .before in
     let j = k .before .before in
     let i = j .before .before in
@@ -86,25 +121,23 @@ returns-3 c =
     sym (unread (asked s) (specific i) (now (s .args .list)) (ap (λ (b : Bool). lent b (now (s .args .list))) (not-false (s .args .given) (j .before .if2 .left))) _ _
     (sym (checked _ (now (s .args .list)) (j .check .ensures)) ∙ k .number .given .1))
 
-returns-4 : tie.Need-returns-4
-returns-4 c =
-    let p = c .before .before .before in
-    let k = p .before .before in
-    let j = k .before .before in
-    let i = j .before .before in
-    let s = i .before .before .before in
+returns-5 : tie.Need-returns-5
+returns-5 c =
+    let p = c .before .before in
+    let f = p .before .before in
+    let k = f .before .before in
+    let s = at-start k in
     let a = s .args in
     let b = now (a .list) in
     let x = k .end .given .0 .1 .1 .0 in
-    let e : checkOf access b ≡ Done (k .end .given .0 .0) (k .end .given .0 .1 .0) x = sym (checked _ b (j .check .ensures)) ∙ k .end .given .1 in
     let t : now (p .part-of .result) ≡ take x b = p .part-of .ensures ∙ part-first x b in
     let m = length (take x b) in
     let h = heldOf (now (a .held)) in
     let r : c .before .decide .result ≡ decidedFrom (suc m) (a .guid) h (a .wanted) (take x b) 8 =
     subst (λ (u : List ℕ). (n : ℕ) → length u ≤ n + 8 → c .before .decide .result ≡ decidedFrom (suc n) (a .guid) h (a .wanted) u 8) t (c .before .decide .ensures) m (omega arith) in
-    c .told2 .ensures
-    ∙ ap₂ toldBy (c .before .before .held-fault2 .ensures) (r ∙ decided-all b _ _ x e (a .guid) h (a .wanted) m (s .fits .wanted .fits) (omega arith))
-    ∙ sym (read (asked s) (specific i) b (ap (λ (g : Bool). lent g b) (not-false (s .args .given) (j .before .if2 .left))) _ _ x e)
+    c .told3 .ensures
+    ∙ ap₂ toldBy (sym (p .before .if3 .left) ∙ f .held-fault2 .ensures) (r ∙ decided-all b _ _ x (read-here k) (a .guid) h (a .wanted) m (s .fits .wanted .fits) (omega arith))
+    ∙ sym (answered k)
 
 pub may-open-spec : {M : Type 1} → statement M
 may-open-spec =
@@ -117,10 +150,12 @@ may-open-spec =
     check-requires
     enum-known-number
     enum-known-end
-    cast-part-of
-    part-of-requires
     held-fault-requires-2
-    decide-requires
     told-requires-2
     returns-3
-    returns-4)
+    cast-part-of
+    part-of-requires
+    decide-requires
+    told-requires-3
+    returns-4
+    returns-5)

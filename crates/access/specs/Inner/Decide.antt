@@ -1,14 +1,14 @@
 -- How the code decides: over the entries once, with the mask of the bits not yet decided.
-use Prim.Native.Nat.{ℕ, zero, suc}
+use Prim.Native.Nat.{ℕ, zero, suc, _-_, _≤_}
 use mathlib.Core.List.{List, [], _∷_, flatten}
 use mathlib.Core.Bool.{Bool, true, false, not, cond, _&&_}
 use mathlib.Core.Option.{Option, none, some}
-use lib.ListN.{length, drop}
+use lib.ListN.{length, drop, getD}
 use lib.Dec.{eqb, leb}
 use lib.Bits.{bitXor, bitAnd}
 use Rattle.list.specs.Order.{need}
 use Rattle.list.specs.Bytes.{has}
-use Rattle.list.specs.Entry.{kindOf, maskOf}
+use Rattle.list.specs.Entry.{kindOf, maskOf, sidLenOf, sidEnd}
 use Rattle.access.specs.declared.Access.{Access}
 use Rattle.access.specs.declared.Access.the-variants.{Refused}
 use Rattle.access.specs.declared.steps.Found.{Found}
@@ -23,6 +23,10 @@ use Rattle.access.specs.Walk.{stepAt}
 unfoldable pub heldFault : List ℕ → ℕ
 heldFault h = need (toEnd h) 6 (need (leb (length (heldOf h)) 32) 7 0)
 
+-- the first byte of a SID's last number
+abbrev pub markOf : List ℕ → ℕ
+markOf s = getD s (length s - 4) 0
+
 -- the answer where the list has no fault
 unfoldable pub toldBy : ℕ → Bool → Access
 toldBy fault may = cond (eqb fault 0) (yesOrNo may) (Refused fault 0)
@@ -30,6 +34,11 @@ toldBy fault may = cond (eqb fault 0) (yesOrNo may) (Refused fault 0)
 -- a mask without the bits of another
 abbrev pub without : ℕ → ℕ → ℕ
 without a b = bitXor a (bitAnd a b)
+
+-- a SID of the entry that t begins with lies in t
+pub record SidIn (t : List ℕ) : Type 0 where
+  pub inside : sidEnd t ≤ length t
+  pub eight : 8 ≤ sidLenOf t
 
 -- the entry counts, and has a bit that isn't decided yet
 unfoldable pub weighs : List ℕ → List (List ℕ) → ℕ → List ℕ → Bool

@@ -2,21 +2,21 @@
 use borrow.Author.Needs.{needs}
 use native.Mathlib.Omega.{arith}
 use mathlib.Core.Path.{_≡_, sym, ap, subst, _∙_}
+use mathlib.Core.Bool.{true}
 use mathlib.Core.List.{List}
 use Prim.Native.Nat.{ℕ, _-_}
 use denote.Ref.{now}
 use lib.ListN.{length, take, drop, length-drop}
 use lib.Seq.{take-all}
-use Rattle.list.specs.Entry.{access, fieldsOf}
+use Rattle.list.specs.Entry.{fieldsOf}
 use Rattle.list.specs.List.{revOf}
-use Rattle.list.specs.Good.{Bounds}
 use Rattle.list.specs.declared.entries.Entry.{Entry}
-use Rattle.list.proofs.Remade.{bounds}
 use Rattle.access.specs.declared.steps.Found.{Found}
-use Rattle.access.specs.Held.{heldOf}
+use Rattle.access.specs.Held.{heldOf, toEnd}
 use Rattle.access.specs.Walk.{stepAt}
-use Rattle.access.specs.Inner.Decide.{leftAfter, turnWith, turnBy}
+use Rattle.access.specs.Inner.Decide.{SidIn, leftAfter, turnWith, turnBy}
 use Rattle.access.proofs.Walks.{Stepped, stepped}
+use Rattle.access.proofs.Weighs.{sid-in}
 use Rattle.access.proofs.decide.take_turn.Statement.{statement}
 use Rattle.access.proofs.decide.take_turn.Tie as tie
 use Rattle.access.proofs.decide.take_turn.Reads as reads
@@ -59,10 +59,11 @@ turn-past-requires : tie.Need-turn-past-requires
 turn-past-requires c κs =
     let k = c .before .before in
     let h = here k in
-    let a = k .before .before .before .before .before .args in
+    let b = k .before .before .before .before .before in
+    let a = b .args in
     let s = now (a .entries) in
-    subst (λ (t : List ℕ). (k .e .given .0 .1 .0 ≡ fieldsOf t) × Bounds t) (sym (left-part s (a .at)))
-    (h .fields, bounds access (revOf s) (drop (a .at) s) (h .sound))
+    subst (λ (t : List ℕ). (k .e .given .0 .1 .0 ≡ fieldsOf t) × SidIn t × (toEnd (now (a .held)) ≡ true)) (sym (left-part s (a .at)))
+    (h .fields, sid-in (revOf s) (drop (a .at) s) (h .sound), b .pre)
 
 returns : tie.Need-returns
 unfolding turnBy

@@ -3,9 +3,10 @@ use borrow.Author.Needs.{needs}
 use native.Mathlib.Omega.{arith}
 use mathlib.Core.Path.{_≡_, sym, ap, _∙_}
 use mathlib.Core.Bool.{true, false}
-use Prim.Native.Nat.{_+_, _≤_}
+use Prim.Native.Nat.{_+_, _-_, _≤_}
 use denote.Ref.{now}
-use lib.ListN.{length}
+use lib.ListN.{length, drop, length-drop}
+use lib.Seq.{length-take-le}
 use borrow.Author.Tests.{not-true, not-false}
 use Rattle.list.specs.declared.entries.Entry.{Entry}
 use Rattle.access.specs.Held.{heldOf}
@@ -21,8 +22,7 @@ use Rattle.access.proofs.held.names.Reads as names-reads
 -- the SID ends inside the bytes
 ends : (s : tie.Start) → s .args .e .sid + s .args .e .«sid_len» ≤ length (now (s .args .t))
 ends s =
-    let b = s .pre .1 in
-    omega (arith, ap (λ (x : Entry). x .sid + x .«sid_len») (s .pre .0), b .sid, b .inside)
+    omega (arith, ap (λ (x : Entry). x .sid + x .«sid_len») (s .pre .0), s .pre .1 .inside)
 
 has-requires : tie.Need-has-requires
 has-requires c κs = search needs
@@ -60,7 +60,11 @@ part-names-end : tie.Need-part-names-end
 part-names-end c = let s = c .before .before .before .before .before .before .before .before .before in omega (arith, ends s)
 
 names-requires : tie.Need-names-requires
-names-requires c κs = search needs
+names-requires c κs =
+    let s = c .before .before .before .before .before .before .before .before .before .before in
+    let a = s .args in
+    let n = length-take-le (a .e .sid + a .e .«sid_len» - a .e .sid) (drop (a .e .sid) (now (a .t))) (omega (arith, ends s, length-drop (a .e .sid) (now (a .t)))) in
+    (omega (arith, n, ap (λ (x : Entry). x .«sid_len») (s .pre .0), s .pre .1 .eight), s .pre .2)
 
 returns-4 : tie.Need-returns-4
 returns-4 c =

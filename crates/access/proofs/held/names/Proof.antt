@@ -1,117 +1,85 @@
 -- The loop has found no SID that is the same before `at`. Assumes nothing.
 use borrow.Author.Needs.{needs}
 use native.Mathlib.Omega.{arith}
-use mathlib.Core.Path.{_≡_, sym, ap, subst, _∙_}
-use mathlib.Core.Bool.{Bool, true, false, _||_}
-use Prim.Native.Nat.{ℕ, _+_, _-_, _≤_, _<_}
-use mathlib.Core.List.{List}
+use mathlib.Core.Path.{_≡_, sym, refl, _∙_}
+use Prim.Native.Nat.{_+_, _-_, _*_}
 use denote.Ref.{now}
-use lib.ListN.{length, take, drop, length-drop}
-use Rattle.list.specs.Bytes.{sameBytes, among}
-use Rattle.list.specs.Identity.{wholeSid}
-use Rattle.list.proofs.Sids.{whole-sid}
-use Rattle.access.specs.Held.{heldOf}
-use Rattle.access.proofs.Holds.{names-none, names-end, names-more}
+use lib.ListN.{length, getD}
+use Rattle.access.proofs.Holds.{Looks, Next, looks-none, looks-end, looks-next, looks-found, looks-more}
 use Rattle.access.proofs.held.names.Statement.{statement}
 use Rattle.access.proofs.held.names.Tie as tie
 use Rattle.access.proofs.held.names.Reads as reads
 use Rattle.access.proofs.held.names.Lts as lts
-use Rattle.list.proofs.sid_in.Reads as sid-in-reads
-use Rattle.list.proofs.same_bytes.Reads as same-bytes-reads
+use Rattle.access.proofs.held.is_named.Reads as is-named-reads
 
 abbrev Inv-loop : tie.InvT-loop
-Inv-loop sid held at₀ at = (at ≤ length held) × (among sid (heldOf held) ≡ among sid (heldOf (drop at held)))
+Inv-loop sid held mark at₀ at = Looks sid held at
 
 abbrev μ-loop : tie.MeasureT-loop
-μ-loop sid held at₀ at = length held - at
+μ-loop sid held mark at₀ at = length held - at
 
--- a SID lies whole at `at`
-more : (c : tie.Else1 Inv-loop μ-loop) → let l = c .before .before .before in (0 < c .before .sid-in .result) × (l .loop .at + c .before .sid-in .result ≤ length (now (l .before .before .before .args .held)))
-more c =
-    let l = c .before .before .before in
-    let h = now (l .before .before .before .args .held) in
-    let e : c .before .sid-in .result ≡ wholeSid (drop (l .loop .at) h) = c .before .sid-in .ensures in
-    let p : 0 < wholeSid (drop (l .loop .at) h) = omega (arith, e, c .if1 .left) in
-    (omega (arith, e), omega (arith, e, whole-sid (drop (l .loop .at) h) p .most, length-drop (l .loop .at) h))
+-- the SID that lies at `at`, by its second byte
+next : (c : tie.After-shared-slice-known4 Inv-loop μ-loop)
+    → let l = c .before .before in
+    let a = l .before .before .before .before .args in
+    Next (now (a .sid)) (now (a .held)) (l .loop .at) (l .loop .inv) (omega arith) (l .loop .at + 8 + 4 * getD (now (a .held)) (l .loop .at + 1) 0)
+next c =
+    let l = c .before .before in
+    let a = l .before .before .before .before .args in
+    looks-next (now (a .sid)) (now (a .held)) (l .loop .at) (l .loop .inv) (omega arith)
 
--- those behind it
-abbrev rest : tie.At-loop Inv-loop μ-loop → Bool
-rest l =
-    let a = l .before .before .before .args in
-    among (now (a .sid)) (heldOf (drop (l .loop .at + wholeSid (drop (l .loop .at) (now (a .held)))) (now (a .held))))
+sub-mark : tie.Need-sub-mark Inv-loop μ-loop
+sub-mark c = search needs
 
--- what the call compares is that SID
-compared : (c : tie.After-same-bytes Inv-loop μ-loop)
-    → let l = c .before .before .before .before .before in
-    let a = l .before .before .before .args in
-    let t = drop (l .loop .at) (now (a .held)) in
-    (c .same-bytes .result ≡ sameBytes (take (wholeSid t) t) (now (a .sid))) × (0 < wholeSid t)
-compared c =
-    let k = c .before .before in
-    let l = k .before .before .before in
-    let a = l .before .before .before .args in
-    let t = drop (l .loop .at) (now (a .held)) in
-    let e : k .before .sid-in .result ≡ wholeSid t = k .before .sid-in .ensures in
-    let z : l .loop .at + k .before .sid-in .result - l .loop .at ≡ wholeSid t = omega (arith, e) in
-    (c .same-bytes .ensures ∙ ap (λ (n : ℕ). sameBytes (take n t) (now (a .sid))) z, omega (arith, e, k .if1 .left))
+shared-slice-read-mark : tie.Need-shared-slice-read-mark Inv-loop μ-loop
+shared-slice-read-mark c = search needs
 
 loop-holds : tie.Need-loop-holds Inv-loop μ-loop
-loop-holds c = search needs
+loop-holds c = let s = c .before .before .before in looks-none (now (s .args .sid)) (now (s .args .held)) (s .pre .1)
 
-sid-in-requires : tie.Need-sid-in-requires Inv-loop μ-loop
-sid-in-requires c κs = search needs
+add-end : tie.Need-add-end Inv-loop μ-loop
+add-end c = search needs
+
+add-end-2 : tie.Need-add-end-2 Inv-loop μ-loop
+add-end-2 c = search needs
+
+shared-slice-read-end : tie.Need-shared-slice-read-end Inv-loop μ-loop
+shared-slice-read-end c = omega (arith, next c .long, next c .inside)
+
+cast-end : tie.Need-cast-end Inv-loop μ-loop
+cast-end c = omega (arith, c .shared-slice-known4 .given (c .before .before .loop .at + 1))
+
+mul-end : tie.Need-mul-end Inv-loop μ-loop
+mul-end c = omega (arith, c .shared-slice-known4 .given (c .before .before .loop .at + 1))
+
+add-end-3 : tie.Need-add-end-3 Inv-loop μ-loop
+add-end-3 c = omega (arith, next c .inside)
+
+is-named-requires : tie.Need-is-named-requires Inv-loop μ-loop
+is-named-requires c κs = (next c .long, next c .inside, refl)
 
 returns : tie.Need-returns Inv-loop μ-loop
 returns c =
-    let l = c .before .before .before in
-    let a = l .before .before .before .args in
-    sym (l .loop .inv .1 ∙ names-none (now (a .sid)) (now (a .held)) (l .loop .at) (sym (c .before .sid-in .ensures) ∙ c .if1 .taken))
-
-add-end : tie.Need-add-end Inv-loop μ-loop
-add-end c = omega (arith, more c)
-
-sub-same-bytes : tie.Need-sub-same-bytes Inv-loop μ-loop
-sub-same-bytes c = search needs
-
-part-same-bytes-start : tie.Need-part-same-bytes-start Inv-loop μ-loop
-part-same-bytes-start c = search needs
-
-part-same-bytes-end : tie.Need-part-same-bytes-end Inv-loop μ-loop
-part-same-bytes-end c = omega (arith, more c)
-
-same-bytes-requires : tie.Need-same-bytes-requires Inv-loop μ-loop
-same-bytes-requires c κs = search needs
-
-returns-2 : tie.Need-returns-2 Inv-loop μ-loop
-returns-2 c =
-    let l = c .before .before .before .before .before .before in
-    let a = l .before .before .before .args in
-    let q = compared (c .before) in
-    sym (l .loop .inv .1
-    ∙ names-more (now (a .sid)) (now (a .held)) (l .loop .at) (q .1)
-    ∙ ap (λ (b : Bool). b || rest l) (sym (q .0) ∙ c .if2 .taken))
+    let k = c .before .before in
+    let l = k .before .before in
+    let a = l .before .before .before .before .args in
+    sym (looks-found (now (a .sid)) (now (a .held)) (l .loop .at) (l .loop .inv) (omega arith) _ (next k) (sym (c .before .is-named .ensures) ∙ c .if1 .taken))
 
 loop-less : tie.Need-loop-less Inv-loop μ-loop
-loop-less c = search needs
+loop-less c = let n = next (c .before .before) in omega (arith, n .long, n .inside)
 
 loop-again : tie.Need-loop-again Inv-loop μ-loop
 loop-again c =
-    let k = c .before .before .before in
-    let l = k .before .before .before in
-    let a = l .before .before .before .args in
-    let h = now (a .held) in
-    let q = compared (c .before) in
-    (omega (arith, more k),
-    l .loop .inv .1
-    ∙ names-more (now (a .sid)) h (l .loop .at) (q .1)
-    ∙ ap (λ (b : Bool). b || rest l) (sym (q .0) ∙ c .if2 .left)
-    ∙ ap (λ (n : ℕ). among (now (a .sid)) (heldOf (drop (l .loop .at + n) h))) (sym (k .before .sid-in .ensures)))
+    let k = c .before .before in
+    let l = k .before .before in
+    let a = l .before .before .before .before .args in
+    looks-more (now (a .sid)) (now (a .held)) (l .loop .at) (l .loop .inv) (omega arith) _ (next k) (sym (c .before .is-named .ensures) ∙ c .if1 .left)
 
-returns-3 : tie.Need-returns-3 Inv-loop μ-loop
-returns-3 c =
+returns-2 : tie.Need-returns-2 Inv-loop μ-loop
+returns-2 c =
     let l = c .before in
-    let a = l .before .before .before .args in
-    sym (l .loop .inv .1 ∙ names-end (now (a .sid)) (now (a .held)) (l .loop .at) (omega arith))
+    let a = l .before .before .before .before .args in
+    sym (looks-end (now (a .sid)) (now (a .held)) (l .loop .at) (l .loop .inv) (omega arith))
 
 pub names-spec : {M : Type 1} → statement M
 names-spec =
@@ -119,15 +87,17 @@ names-spec =
     (tie.spec
     Inv-loop
     μ-loop
+    sub-mark
+    shared-slice-read-mark
     loop-holds
-    sid-in-requires
-    returns
     add-end
-    sub-same-bytes
-    part-same-bytes-start
-    part-same-bytes-end
-    same-bytes-requires
-    returns-2
+    add-end-2
+    shared-slice-read-end
+    cast-end
+    mul-end
+    add-end-3
+    is-named-requires
+    returns
     loop-less
     loop-again
-    returns-3)
+    returns-2)
