@@ -12,7 +12,7 @@ use Rattle.list.specs.Bytes.{has}
 use Rattle.list.specs.Entry.{kindOf, maskOf}
 use Rattle.list.proofs.Bits.{has-and, has-without, no-bits}
 use Rattle.list.proofs.Tests.{both-true, false-or, off}
-use Rattle.access.specs.Open.{counts, isAllow, granted, opensBy}
+use Rattle.access.specs.Open.{entryCounts, isAllow, granted, opensBy}
 use Rattle.access.specs.Inner.Decide.{without, weighs, leftAfter, ifLeft, decided}
 use Rattle.access.proofs.Bitwise.{both-hold, both-ways}
 use Rattle.access.proofs.Wanted.{granted-here, granted-on, opens-all, opens-at, opens-same}
@@ -41,13 +41,13 @@ module _ (type : List ℕ) (sids : List (List ℕ)) where
     unfolding weighs
     passed w = opens-same type sids sids left es (e ∷ es) (λ k l h. sym (granted-on type sids (2 ^ k) e es (unsaid k h)))
       where
-        unsaid : (k : ℕ) → has (2 ^ k) left ≡ true → (counts type sids e && has (2 ^ k) (maskOf e)) ≡ false
+        unsaid : (k : ℕ) → has (2 ^ k) left ≡ true → (entryCounts type sids e && has (2 ^ k) (maskOf e)) ≡ false
         unsaid k h =
-            false-or (counts type sids e && has (2 ^ k) (maskOf e))
-            (λ t. let f = both-true (counts type sids e) (has (2 ^ k) (maskOf e)) t in off (both-hold (meets k (maskOf e) left (f .1) h) (f .0)) w)
+            false-or (entryCounts type sids e && has (2 ^ k) (maskOf e))
+            (λ t. let f = both-true (entryCounts type sids e) (has (2 ^ k) (maskOf e)) t in off (both-hold (meets k (maskOf e) left (f .1) h) (f .0)) w)
 
     -- an allow that counts leaves the bits that it hasn't
-    allowed : counts type sids e ≡ true → isAllow (kindOf e) ≡ true → opensBy type sids (without left (maskOf e)) es ≡ opensBy type sids left (e ∷ es)
+    allowed : entryCounts type sids e ≡ true → isAllow (kindOf e) ≡ true → opensBy type sids (without left (maskOf e)) es ≡ opensBy type sids left (e ∷ es)
     allowed c a = both-ways (opensBy type sids (without left (maskOf e)) es) (opensBy type sids left (e ∷ es)) to from
       where
         to : opensBy type sids (without left (maskOf e)) es ≡ true → opensBy type sids left (e ∷ es) ≡ true
@@ -71,7 +71,7 @@ module _ (type : List ℕ) (sids : List (List ℕ)) where
     denied : left < 2 ^ 32 → weighs type sids left e ≡ true → isAllow (kindOf e) ≡ false → opensBy type sids left (e ∷ es) ≡ false
     unfolding weighs
     denied b w a =
-        let f = both-true (has left (maskOf e)) (counts type sids e) w in
+        let f = both-true (has left (maskOf e)) (entryCounts type sids e) w in
         false-or (opensBy type sids left (e ∷ es))
         (λ t. common (maskOf e) left b (f .0)
         (λ k l h. false-or (has (2 ^ k) (maskOf e))
@@ -85,7 +85,7 @@ module _ (type : List ℕ) (sids : List (List ℕ)) where
       after true false w k = sym (denied b w k)
       after true true w k =
           on (without left (maskOf e)) (xor-lt 32 left (bitAnd left (maskOf e)) b (omega (arith, and-le-l left (maskOf e))))
-          ∙ allowed (both-true (has left (maskOf e)) (counts type sids e) w .1) k
+          ∙ allowed (both-true (has left (maskOf e)) (entryCounts type sids e) w .1) k
 
       turn : (z : Bool) → eqb left 0 ≡ z → cond z true (ifLeft (leftAfter type sids left e) (λ l. decided type sids l es)) ≡ opensBy type sids left (e ∷ es)
       unfolding leftAfter

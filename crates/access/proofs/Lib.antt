@@ -9,3 +9,6 @@ pub mod Decides
 pub mod Opens
 pub mod Small
 pub mod Theorems
+pub mod Answers
+pub mod Worked
+pub mod Determined

@@ -8,7 +8,7 @@ use native.Mathlib.Omega.{arith}
 use lib.ListN.{length, take}
 use lib.Seq.{length-take-le}
 use lib.Dec.{leb}
-use borrow.Author.Tests.{ne-eqb}
+use borrow.Author.Tests.{ne-eqb, le-leb}
 use Rattle.list.specs.Order.{need}
 use Rattle.list.specs.Bytes.{has}
 use Rattle.list.specs.Entry.{access}
@@ -55,6 +55,10 @@ no-fault h = by (toEnd h)
     by : (x : Bool) → _≡_ {A = ℕ} (need x 6 (need (leb (length (heldOf h)) 32) 7 0)) 0 → x ≡ true
     by true e = refl
     by false e = absurd (omega arith)
+
+pub fine-fault : (h : List ℕ) → toEnd h ≡ true → length (heldOf h) ≤ 32 → heldFault h ≡ 0
+unfolding heldFault need
+fine-fault h e l = rw (e, le-leb (length (heldOf h)) 32)
 
 module _ (q : Question) where
   pub wants-generic : has 0xF0000000 (q .wanted) ≡ true → mayOpenOf q ≡ Refused 14 0

@@ -24,19 +24,10 @@ use Rattle.list.proofs.Sids.{same-true}
 use Rattle.access.specs.declared.Access.{Access}
 use Rattle.access.specs.declared.Access.the-variants.{Yes, Refused}
 use Rattle.access.specs.Held.{heldOf, toEnd}
-use Rattle.access.specs.Open.{Question, inheritOnly, typeCounts, counts, isAllow, granted, opensBy, opens, onRead, readFirst, yesOrNo, mayOpenOf}
+use Rattle.access.specs.Open.{Question, inheritOnly, typeCounts, entryCounts, isAllow, granted, opensBy, opens, onRead, readFirst, yesOrNo, mayOpenOf}
+use Rattle.access.specs.Said.{spoken, ordinaryOf, asks}
 use Rattle.access.proofs.Bitwise.{both-hold, both-ways}
 use Rattle.access.proofs.Wanted.{granted-here, granted-on, opens-all, opens-at, opens-same}
-
--- some entry counts and has the bit
-unfoldable pub spoken : List ℕ → List (List ℕ) → ℕ → List (List ℕ) → Bool
-spoken type sids bit [] = false
-spoken type sids bit (e ∷ es) = (counts type sids e && has bit (maskOf e)) || spoken type sids bit es
-
--- the SIDs that are no placeholders, in order
-unfoldable pub ordinaryOf : List (List ℕ) → List (List ℕ)
-ordinaryOf [] = []
-ordinaryOf (s ∷ ss) = cond (eqb (placeholderOf s) 0) (s ∷ ordinaryOf ss) (ordinaryOf ss)
 
 -- ---- masks
 
@@ -80,16 +71,16 @@ module _ (type : List ℕ) (sids : List (List ℕ)) where
 -- ---- the SIDs held
 
 module _ (type : List ℕ) (sids more : List (List ℕ)) (all : (x : List ℕ) → among x sids ≡ true → among x more ≡ true) where
-  more-counts : (e : List ℕ) → counts type sids e ≡ true → counts type more e ≡ true
-  unfolding counts
+  more-counts : (e : List ℕ) → entryCounts type sids e ≡ true → entryCounts type more e ≡ true
+  unfolding entryCounts
   more-counts e h =
       let f = both-true (not (inheritOnly e)) (among (sidOf e) sids && typeCounts type e) h in
       let g = both-true (among (sidOf e) sids) (typeCounts type e) (f .1) in
       both-hold (f .0) (both-hold (all (sidOf e) (g .0)) (g .1))
 
   -- an entry that counts with more SIDs only names one of the new ones
-  new-counts : (e : List ℕ) → counts type more e ≡ true → counts type sids e ≡ false → (among (sidOf e) more ≡ true) × (among (sidOf e) sids ≡ false)
-  unfolding counts
+  new-counts : (e : List ℕ) → entryCounts type more e ≡ true → entryCounts type sids e ≡ false → (among (sidOf e) more ≡ true) × (among (sidOf e) sids ≡ false)
+  unfolding entryCounts
   new-counts e h n =
       let f = both-true (not (inheritOnly e)) (among (sidOf e) more && typeCounts type e) h in
       let g = both-true (among (sidOf e) more) (typeCounts type e) (f .1) in
@@ -99,16 +90,16 @@ module _ (type : List ℕ) (sids more : List (List ℕ)) (all : (x : List ℕ) �
       → granted type sids bit es ≡ true → granted type more bit es ≡ true
   unfolding granted
   more-granted bit [] n t = t
-  more-granted bit (e ∷ es) n t = by (counts type sids e && has bit (maskOf e)) (counts type more e && has bit (maskOf e)) refl refl (more-granted bit es (n .1))
+  more-granted bit (e ∷ es) n t = by (entryCounts type sids e && has bit (maskOf e)) (entryCounts type more e && has bit (maskOf e)) refl refl (more-granted bit es (n .1))
     where
-      by : (x y : Bool) → (counts type sids e && has bit (maskOf e)) ≡ x → (counts type more e && has bit (maskOf e)) ≡ y
+      by : (x y : Bool) → (entryCounts type sids e && has bit (maskOf e)) ≡ x → (entryCounts type more e && has bit (maskOf e)) ≡ y
           → (granted type sids bit es ≡ true → granted type more bit es ≡ true) → granted type more bit (e ∷ es) ≡ true
       by true y p q on =
-          let f = both-true (counts type sids e) (has bit (maskOf e)) p in
+          let f = both-true (entryCounts type sids e) (has bit (maskOf e)) p in
           granted-here type more bit e es (both-hold (more-counts e (f .0)) (f .1)) ∙ sym (granted-here type sids bit e es p) ∙ t
       by false true p q on =
-          let f = both-true (counts type more e) (has bit (maskOf e)) q in
-          let g = new-counts e (f .0) (false-or (counts type sids e) (λ c. off (both-hold c (f .1)) p)) in
+          let f = both-true (entryCounts type more e) (has bit (maskOf e)) q in
+          let g = new-counts e (f .0) (false-or (entryCounts type sids e) (λ c. off (both-hold c (f .1)) p)) in
           granted-here type more bit e es q ∙ n .0 (g .0) (g .1)
       by false false p q on = granted-on type more bit e es q ∙ on (sym (granted-on type sids bit e es p) ∙ t)
 
@@ -129,8 +120,8 @@ among-ordinary x z (s ∷ ss) = by (eqb (placeholderOf s) 0) refl (among-ordinar
     by false o on = rw (false-or (sameBytes s x) (λ t. eqb-false (placeholderOf s) 0 o (ap placeholderOf (same-true s x t) ∙ z))) on
 
 module _ (type : List ℕ) (sids : List (List ℕ)) where
-  ordinary-counts : (e : List ℕ) → placeholderOf (sidOf e) ≡ 0 → counts type sids e ≡ counts type (ordinaryOf sids) e
-  unfolding counts
+  ordinary-counts : (e : List ℕ) → placeholderOf (sidOf e) ≡ 0 → entryCounts type sids e ≡ entryCounts type (ordinaryOf sids) e
+  unfolding entryCounts
   ordinary-counts e z = ap (λ (b : Bool). not (inheritOnly e) && (b && typeCounts type e)) (among-ordinary (sidOf e) z sids)
 
   ordinary-granted : (bit : ℕ) (es : List (List ℕ)) → Every (λ e. placeholderOf (sidOf e) ≡ 0) es → granted type sids bit es ≡ granted type (ordinaryOf sids) bit es
@@ -150,9 +141,9 @@ module _ (type : List ℕ) (sids : List (List ℕ)) where
   pub first-decides : (bit : ℕ) (xs ys : List (List ℕ)) → spoken type sids bit xs ≡ true → granted type sids bit (xs ++ ys) ≡ granted type sids bit xs
   unfolding spoken granted
   first-decides bit [] ys h = absurd (off h refl)
-  first-decides bit (x ∷ xs) ys h = by (counts type sids x && has bit (maskOf x)) refl (first-decides bit xs ys)
+  first-decides bit (x ∷ xs) ys h = by (entryCounts type sids x && has bit (maskOf x)) refl (first-decides bit xs ys)
     where
-      by : (s : Bool) → (counts type sids x && has bit (maskOf x)) ≡ s → (spoken type sids bit xs ≡ true → granted type sids bit (xs ++ ys) ≡ granted type sids bit xs)
+      by : (s : Bool) → (entryCounts type sids x && has bit (maskOf x)) ≡ s → (spoken type sids bit xs ≡ true → granted type sids bit (xs ++ ys) ≡ granted type sids bit xs)
           → granted type sids bit (x ∷ (xs ++ ys)) ≡ granted type sids bit (x ∷ xs)
       by true s on = granted-here type sids bit x (xs ++ ys) s ∙ sym (granted-here type sids bit x xs s)
       by false s on = granted-on type sids bit x (xs ++ ys) s ∙ on (rw s at h) ∙ sym (granted-on type sids bit x xs s)
@@ -165,23 +156,23 @@ module _ (type : List ℕ) (sids : List (List ℕ)) where
 -- ---- entries that don't count
 
 module _ (type : List ℕ) (sids : List (List ℕ)) (e : List ℕ) where
-  uncounted-granted : counts type sids e ≡ false → (bit : ℕ) (xs ys : List (List ℕ)) → granted type sids bit (xs ++ (e ∷ ys)) ≡ granted type sids bit (xs ++ ys)
+  uncounted-granted : entryCounts type sids e ≡ false → (bit : ℕ) (xs ys : List (List ℕ)) → granted type sids bit (xs ++ (e ∷ ys)) ≡ granted type sids bit (xs ++ ys)
   unfolding granted
   uncounted-granted c bit [] ys = granted-on type sids bit e ys (rw c)
-  uncounted-granted c bit (x ∷ xs) ys = ap (cond (counts type sids x && has bit (maskOf x)) (isAllow (kindOf x))) (uncounted-granted c bit xs ys)
+  uncounted-granted c bit (x ∷ xs) ys = ap (cond (entryCounts type sids x && has bit (maskOf x)) (isAllow (kindOf x))) (uncounted-granted c bit xs ys)
 
   -- an entry that doesn't count may stand anywhere or be gone
-  pub uncounted-unseen : (w : ℕ) (xs ys : List (List ℕ)) → counts type sids e ≡ false → opensBy type sids w (xs ++ (e ∷ ys)) ≡ opensBy type sids w (xs ++ ys)
+  pub uncounted-unseen : (w : ℕ) (xs ys : List (List ℕ)) → entryCounts type sids e ≡ false → opensBy type sids w (xs ++ (e ∷ ys)) ≡ opensBy type sids w (xs ++ ys)
   uncounted-unseen w xs ys c = opens-same type sids sids w (xs ++ (e ∷ ys)) (xs ++ ys) (λ k l h. uncounted-granted c (2 ^ k) xs ys)
 
   -- so may one that is inherit-only
   pub io-unseen : (w : ℕ) (xs ys : List (List ℕ)) → inheritOnly e ≡ true → opensBy type sids w (xs ++ (e ∷ ys)) ≡ opensBy type sids w (xs ++ ys)
-  unfolding counts
+  unfolding entryCounts
   io-unseen w xs ys h = uncounted-unseen w xs ys (rw h)
 
   -- and one that names none of the SIDs held
   pub unheld-unseen : (w : ℕ) (xs ys : List (List ℕ)) → among (sidOf e) sids ≡ false → opensBy type sids w (xs ++ (e ∷ ys)) ≡ opensBy type sids w (xs ++ ys)
-  unfolding counts
+  unfolding entryCounts
   unheld-unseen w xs ys h = uncounted-unseen w xs ys (rw h (and-false (not (inheritOnly e))))
 
 -- ---- the answer
@@ -292,10 +283,6 @@ generic-or a b =
     by : (x y : ℕ) → not (eqb (bitOr x y) 0) ≡ (not (eqb x 0) || not (eqb y 0))
     by zero y = refl
     by (suc x) y = rw (ne-eqb (bitOr (suc x) y) 0 (λ e. omega (arith, or-add-and (suc x) y, and-le-r (suc x) y)), ne-eqb (suc x) 0 (λ e. omega arith))
-
--- the same question of another mask
-abbrev pub asks : Question → ℕ → Question
-asks q w = record { list = q .list; type = q .type; held = q .held; wanted = w }
 
 opens-or : (q : Question) (a b : ℕ) (list : MaybeList) → opens (asks q (bitOr a b)) list ≡ (opens (asks q a) list && opens (asks q b) list)
 unfolding opens

@@ -19,7 +19,7 @@ use Rattle.access.specs.declared.steps.Found.{Found}
 use Rattle.access.specs.declared.steps.Found.the-variants.{At, End}
 use Rattle.access.specs.declared.decide.Turn.{Turn}
 use Rattle.access.specs.declared.decide.Turn.the-variants.{On, Denied}
-use Rattle.access.specs.Open.{typeCounts, counts}
+use Rattle.access.specs.Open.{typeCounts, entryCounts}
 use Rattle.access.specs.Walk.{stepAt}
 use Rattle.access.specs.Inner.Decide.{weighs, leftAfter, ifLeft, decided, turnWith, turnBy, turnAt, ifOn, decidedFrom}
 use Rattle.access.proofs.Walks.{Stepped, stepped, Walking, walking-end, walking-step, walking-more}
@@ -39,8 +39,8 @@ module _ (type : List ℕ) (sids : List (List ℕ)) (rev : ℕ) (t : List ℕ) (
       rw (c .word, c .kind)
       (typed (objectKind (kindOf t)) (has 1 (wordOf t)) _ _ (λ o w. ap (λ (g : List ℕ). sameBytes g type) (cut-guid access rev t s (typed-long access rev t s o w))))
 
-  counts-cut : counts type sids (take (sizeOf t) t) ≡ counts type sids t
-  unfolding counts
+  counts-cut : entryCounts type sids (take (sizeOf t) t) ≡ entryCounts type sids t
+  unfolding entryCounts
   counts-cut = rw (cut-same access rev t s .flags, cut-sid access rev t s, type-cut)
 
   pub left-cut : (left : ℕ) → leftAfter type sids left (take (sizeOf t) t) ≡ leftAfter type sids left t

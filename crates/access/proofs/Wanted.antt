@@ -5,7 +5,7 @@ use mathlib.Core.List.{List, _∷_}
 use Prim.Native.Nat.{ℕ, _^_, _<_}
 use Rattle.list.specs.Bytes.{has}
 use Rattle.list.specs.Entry.{kindOf, maskOf}
-use Rattle.access.specs.Open.{counts, isAllow, granted, opensBy}
+use Rattle.access.specs.Open.{entryCounts, isAllow, granted, opensBy}
 use Rattle.access.proofs.Bitwise.{each-same, each-true, each-at}
 
 -- a test of the wanted bits holds where it holds of a bit that is wanted
@@ -24,12 +24,12 @@ wanted-same false g g′ f = refl
 
 module _ (type : List ℕ) (sids : List (List ℕ)) (bit : ℕ) (e : List ℕ) (es : List (List ℕ)) where
   -- an entry that counts and has the bit decides it
-  pub granted-here : (counts type sids e && has bit (maskOf e)) ≡ true → granted type sids bit (e ∷ es) ≡ isAllow (kindOf e)
+  pub granted-here : (entryCounts type sids e && has bit (maskOf e)) ≡ true → granted type sids bit (e ∷ es) ≡ isAllow (kindOf e)
   unfolding granted
   granted-here h = rw h
 
   -- one that doesn't count, or hasn't the bit, is passed over
-  pub granted-on : (counts type sids e && has bit (maskOf e)) ≡ false → granted type sids bit (e ∷ es) ≡ granted type sids bit es
+  pub granted-on : (entryCounts type sids e && has bit (maskOf e)) ≡ false → granted type sids bit (e ∷ es) ≡ granted type sids bit es
   unfolding granted
   granted-on h = rw h
 

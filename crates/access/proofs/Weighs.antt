@@ -15,7 +15,7 @@ use Rattle.list.specs.declared.entries.Entry.{Entry}
 use Rattle.list.proofs.Sids.{sid-length}
 use Rattle.list.proofs.Remade.{bounds}
 use Rattle.access.specs.declared.decide.Turn.the-variants.{On, Denied}
-use Rattle.access.specs.Open.{typeCounts, counts, isAllow}
+use Rattle.access.specs.Open.{typeCounts, entryCounts, isAllow}
 use Rattle.access.specs.Inner.Decide.{SidIn, without, weighs, leftAfter, turnWith}
 
 -- the SID of a good entry lies in what the entry begins
@@ -54,17 +54,17 @@ module _ (type : List ℕ) (sids : List (List ℕ)) (left : ℕ) (t : List ℕ) 
   no-bit-left h = rw (ap (has left) (sym mask-is) ∙ h)
 
   pub only-inherited : (bitAnd (e .flags) 8 ≡ 0 → ⊥) → weighs type sids left t ≡ false
-  unfolding weighs counts
+  unfolding weighs entryCounts
   only-inherited f = rw (ne-eqb (bitAnd (flagsOf t) 8) 0 (λ z. f (ap (λ (x : ℕ). bitAnd x 8) flags-is ∙ z))) (and-false (has left (maskOf t)))
 
   pub other-type : typeCounts type t ≡ false → weighs type sids left t ≡ false
-  unfolding weighs counts
+  unfolding weighs entryCounts
   other-type h = rw (h, and-false (among (sidOf t) sids), and-false (not (has 8 (flagsOf t)))) (and-false (has left (maskOf t)))
 
   -- the SID is left to look for
   pub named : has left (e .mask) ≡ true → bitAnd (e .flags) 8 ≡ 0 → typeCounts type t ≡ true
       → weighs type sids left t ≡ among (take (e .sid + e .«sid_len» - e .sid) (drop (e .sid) t)) sids
-  unfolding weighs counts
+  unfolding weighs entryCounts
   named h z k =
       let n : e .sid + e .«sid_len» - e .sid ≡ sidLenOf t = omega (arith, ap (λ (x : Entry). x .«sid_len») q) in
       let s : take (e .sid + e .«sid_len» - e .sid) (drop (e .sid) t) ≡ sidOf t =

@@ -1,4 +1,4 @@
--- The SIDs that a person holds (RULES 6.1): laid end to end, each as its bytes.
+-- The SIDs that a person holds (RULES 10.1): laid end to end, each as its bytes.
 use Prim.Native.Nat.{ℕ, zero, suc}
 use mathlib.Core.List.{List, [], _∷_, flatten}
 use mathlib.Core.Bool.{Bool, cond}

@@ -1,4 +1,5 @@
 pub mod Held
 pub mod Open
 pub mod Walk
+pub mod Said
 pub mod Inner

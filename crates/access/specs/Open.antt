@@ -1,4 +1,4 @@
--- Who may open (RULES 6.2 to 6.5). An entry is its bytes.
+-- Who may open (RULES 10.2 to 10.5). An entry is its bytes.
 use Prim.Native.Nat.{ℕ, zero, suc, _^_}
 use mathlib.Core.List.{List, [], _∷_}
 use mathlib.Core.Bool.{Bool, true, false, not, cond, _&&_, _||_}
@@ -32,8 +32,8 @@ unfoldable pub typeCounts : List ℕ → List ℕ → Bool
 typeCounts type e = cond (objectKind (kindOf e)) (not (has 1 (wordOf e)) || sameBytes (guidAt e 12) type) true
 
 -- the entry counts: it isn't IO and names one of the SIDs, and its type counts
-unfoldable pub counts : List ℕ → List (List ℕ) → List ℕ → Bool
-counts type sids e = not (inheritOnly e) && (among (sidOf e) sids && typeCounts type e)
+unfoldable pub entryCounts : List ℕ → List (List ℕ) → List ℕ → Bool
+entryCounts type sids e = not (inheritOnly e) && (among (sidOf e) sids && typeCounts type e)
 
 -- the entry is an allow, type 00 or 05, and no deny
 unfoldable pub isAllow : ℕ → Bool
@@ -42,7 +42,7 @@ isAllow kind = eqb kind 0 || eqb kind 5
 -- the first entry that counts and has the bit is an allow; a bit that no entry speaks of is a no
 unfoldable pub granted : List ℕ → List (List ℕ) → ℕ → List (List ℕ) → Bool
 granted type sids bit [] = false
-granted type sids bit (e ∷ es) = cond (counts type sids e && has bit (maskOf e)) (isAllow (kindOf e)) (granted type sids bit es)
+granted type sids bit (e ∷ es) = cond (entryCounts type sids e && has bit (maskOf e)) (isAllow (kindOf e)) (granted type sids bit es)
 
 -- a test holds of each of the n lowest bits
 unfoldable pub eachBit : ℕ → (ℕ → Bool) → Bool

@@ -1,4 +1,4 @@
--- Stepping through a list's entries where they lie (RULES 6.6, 6.7).
+-- Stepping through a list's entries where they lie (RULES 10.6, 10.7).
 use Prim.Native.Nat.{ℕ, zero, suc, _+_}
 use mathlib.Core.List.{List, [], _∷_}
 use mathlib.Core.Bool.{cond}

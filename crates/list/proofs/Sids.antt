@@ -1,11 +1,11 @@
 -- Laws of identities and of equal bytes.
 use mathlib.Core.Path.{_≡_, refl, sym, ap, ap₂, _∙_}
-use mathlib.Core.Bool.{Bool, true, false, cond, _&&_, and-assoc, and-true, and-false}
+use mathlib.Core.Bool.{Bool, true, false, cond, _&&_, and-assoc}
 use mathlib.Core.List.{List, [], _∷_, _++_}
-use Prim.Native.Nat.{ℕ, _+_, _-_, _*_, _≤_, _<_}
+use Prim.Native.Nat.{ℕ, _+_, _*_, _≤_, _<_}
 use native.Mathlib.Omega.{arith}
 use lib.ListN.{length, take, drop, replicate, getD, length-append, length-drop, take-append-drop, List·getD-append}
-use lib.Seq.{take-add, take-at, length-take-le}
+use lib.Seq.{take-at, drop-drop, length-take-le}
 use lib.Dec.{eqb, leb, ltb}
 use borrow.Author.Tests.{eq-eqb, ne-eqb, lt-ltb, le-leb, lt-leb, eqb-true, leb-true, ltb-true}
 use Rattle.list.specs.Bytes.{Bytes, le, sameBytes}
@@ -41,7 +41,7 @@ same-no a b f = false-or (sameBytes a b) (λ h. f (same-true a b h))
 pub same-length : (a b : List ℕ) → (length a ≡ length b → ⊥) → sameBytes a b ≡ false
 same-length a b f = same-no a b (λ e. f (ap length e))
 
--- bytes are compared from the last ones on, by numbers of any width
+-- bytes are compared by numbers of any width
 same-split : (p q r t : List ℕ) → length p ≡ length r → sameBytes (p ++ q) (r ++ t) ≡ (sameBytes p r && sameBytes q t)
 unfolding sameBytes
 same-split [] q [] t h = refl
@@ -49,37 +49,32 @@ same-split [] q (y ∷ r) t h = absurd (omega arith)
 same-split (x ∷ p) q [] t h = absurd (omega arith)
 same-split (x ∷ p) q (y ∷ r) t h = ap (λ (z : Bool). eqb x y && z) (same-split p q r t (omega arith)) ∙ sym (and-assoc (eqb x y) (sameBytes p r) (sameBytes q t))
 
-module _ (k n : ℕ) (a b : List ℕ) (some : k ≤ n) (ha : n ≤ length a) (hb : n ≤ length b) where
-  apart : (s : List ℕ) → take n s ≡ take (n - k) s ++ take k (drop (n - k) s)
-  apart s = let e : n ≡ n - k + k = omega arith in ap (λ (m : ℕ). take m s) e ∙ take-add (n - k) k s
+module _ (k i : ℕ) (a b : List ℕ) (ha : i + k ≤ length a) (hb : i + k ≤ length b) where
+  there : (s : List ℕ) → i + k ≤ length s → k ≤ length (drop i s)
+  there s h = omega (arith, length-drop i s)
 
-  last-split : sameBytes (take n a) (take n b) ≡ (sameBytes (take (n - k) a) (take (n - k) b) && sameBytes (take k (drop (n - k) a)) (take k (drop (n - k) b)))
-  last-split =
-      ap₂ sameBytes (apart a) (apart b)
-      ∙ same-split (take (n - k) a) _ (take (n - k) b) _ (length-take-le (n - k) a (omega arith) ∙ sym (length-take-le (n - k) b (omega arith)))
+  next-split : sameBytes (drop i a) (drop i b) ≡ (sameBytes (take k (drop i a)) (take k (drop i b)) && sameBytes (drop (i + k) a) (drop (i + k) b))
+  next-split =
+      let x = drop i a in
+      let y = drop i b in
+      ap₂ sameBytes (sym (take-append-drop k x)) (sym (take-append-drop k y))
+      ∙ same-split (take k x) (drop k x) (take k y) (drop k y) (length-take-le k x (there a ha) ∙ sym (length-take-le k y (there b hb)))
+      ∙ ap₂ (λ (u v : List ℕ). sameBytes (take k x) (take k y) && sameBytes u v) (drop-drop k i a) (drop-drop k i b)
 
-  number-in : (s : List ℕ) → n ≤ length s → le k (take k (drop (n - k) s)) ≡ le k (drop (n - k) s)
+  number-in : (s : List ℕ) → i + k ≤ length s → le k (take k (drop i s)) ≡ le k (drop i s)
   number-in s h =
-      let l : k ≤ length (drop (n - k) s) = omega (arith, length-drop (n - k) s) in
-      sym (le-append k (take k (drop (n - k) s)) (drop k (drop (n - k) s)) (omega (arith, length-take-le k (drop (n - k) s) l)))
-      ∙ ap (le k) (take-append-drop k (drop (n - k) s))
+      sym (le-append k (take k (drop i s)) (drop k (drop i s)) (omega (arith, length-take-le k (drop i s) (there s h)))) ∙ ap (le k) (take-append-drop k (drop i s))
 
-  -- the last k bytes spell other numbers
-  pub last-differs : (le k (drop (n - k) a) ≡ le k (drop (n - k) b) → ⊥) → sameBytes (take n a) (take n b) ≡ false
-  last-differs f =
-      last-split
-      ∙ rw (same-no (take k (drop (n - k) a)) (take k (drop (n - k) b)) (λ e. f (sym (number-in a ha) ∙ ap (le k) e ∙ number-in b hb)))
-      (and-false (sameBytes (take (n - k) a) (take (n - k) b)))
+  -- the next k bytes spell other numbers
+  pub next-differs : (le k (drop i a) ≡ le k (drop i b) → ⊥) → sameBytes (drop i a) (drop i b) ≡ false
+  next-differs f = next-split ∙ rw (same-no (take k (drop i a)) (take k (drop i b)) (λ e. f (sym (number-in a ha) ∙ ap (le k) e ∙ number-in b hb)))
 
-  -- they spell the same one, so those before them are left to compare
-  pub last-same : Bytes a → Bytes b → le k (drop (n - k) a) ≡ le k (drop (n - k) b)
-      → sameBytes (take n a) (take n b) ≡ sameBytes (take (n - k) a) (take (n - k) b)
-  last-same da db e =
-      let x = drop (n - k) a in
-      let y = drop (n - k) b in
-      let s : take k x ≡ take k y =
-      le-same k x y (omega (arith, length-drop (n - k) a)) (omega (arith, length-drop (n - k) b)) (bytes-drop (n - k) a da) (bytes-drop (n - k) b db) e in
-      last-split ∙ rw (same-yes (take k x) (take k y) s) (and-true (sameBytes (take (n - k) a) (take (n - k) b)))
+  -- they spell the same one, so those behind them are left to compare
+  pub next-same : Bytes a → Bytes b → le k (drop i a) ≡ le k (drop i b) → sameBytes (drop i a) (drop i b) ≡ sameBytes (drop (i + k) a) (drop (i + k) b)
+  next-same da db e =
+      let s : take k (drop i a) ≡ take k (drop i b) =
+      le-same k (drop i a) (drop i b) (there a ha) (there b hb) (bytes-drop i a da) (bytes-drop i b db) e in
+      next-split ∙ rw (same-yes (take k (drop i a)) (take k (drop i b)) s)
 
 -- a SID has 8 to 68 bytes
 pub record SidLength (n : ℕ) : Type 0 where

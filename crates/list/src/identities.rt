@@ -1,12 +1,11 @@
 // Identities (SIDs) and GUIDs, by value.
 ghost use mathlib.Core.Path.{_≡_};
 ghost use Prim.Native.Nat.{_+_, _≤_};
-ghost use lib.ListN.{length, take, drop};
+ghost use lib.ListN.{length, drop};
 ghost use Rattle.list.specs.Bytes.{sameBytes, guidAt};
 ghost use Rattle.list.specs.Identity.{sidLen, wholeSid, isSid, placeholderOf, identityOf, bytesOf, madeOf, placeholderSid};
 use crate::numbers::put;
 use crate::numbers::same_bytes;
-use crate::numbers::word_at;
 
 // An identity: its bytes, zeros up to 68, and how many bytes it has.
 pub struct Sid {
@@ -257,36 +256,16 @@ fn is_sid(b: &[u8]) -> bool
     b.len() == sid_at(b, 0)
 }
 
-// Whether the first twelve bytes are the same: a placeholder's length, in three words.
-fn same_twelve(a: &[u8], b: &[u8]) -> bool
-    requires { ⌜ (12 ≤ length (now a)) × (12 ≤ length (now b)) ⌝ }
-    ensures { λ r. ⌜ r ≡ sameBytes (take 12 (now (a .entry))) (take 12 (now (b .entry))) ⌝ }
-{
-    if word_at(a, 8) != word_at(b, 8) {
-        return false;
-    }
-    if word_at(a, 4) != word_at(b, 4) {
-        return false;
-    }
-    if word_at(a, 0) != word_at(b, 0) {
-        return false;
-    }
-    true
-}
-
 // Which placeholder the bytes are: 1 for creator owner, 2 for creator group, 0 for neither.
 pub fn placeholder_of(s: &[u8]) -> u8
     ensures { λ r. ⌜ r ≡ placeholderOf (now (s .entry)) ⌝ }
 {
-    if s.len() != 12 {
-        return 0;
-    }
     let owner = Sid::CREATOR_OWNER.bytes;
-    if same_twelve(s, &owner) {
+    if same_bytes(s, &owner[0..12]) {
         return 1;
     }
     let group = Sid::CREATOR_GROUP.bytes;
-    if same_twelve(s, &group) {
+    if same_bytes(s, &group[0..12]) {
         return 2;
     }
     0

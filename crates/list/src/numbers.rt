@@ -1,7 +1,7 @@
 // Little-endian numbers, bytes compared, and bytes put on the front of a buffer.
 ghost use mathlib.Core.Path.{_≡_};
 ghost use Prim.Native.Nat.{_+_, _≤_, min};
-ghost use lib.ListN.{length, take, drop, getD};
+ghost use lib.ListN.{length, drop, getD};
 ghost use Rattle.list.specs.Bytes.{le, sameBytes, part, putOn};
 
 // The 16-bit number at `at`.
@@ -69,36 +69,36 @@ pub fn word_in(s: &[u8], at: usize) -> u32
     0
 }
 
-// Whether the first n bytes are the same.
-fn same_front(a: &[u8], b: &[u8], n: usize) -> bool
-    requires { ⌜ (n ≤ length (now a)) × (n ≤ length (now b)) ⌝ }
-    ensures { λ r. ⌜ r ≡ sameBytes (take n (now (a .entry))) (take n (now (b .entry))) ⌝ }
+// Whether the bytes from `at` on are the same.
+fn same_rest(a: &[u8], b: &[u8], at: usize) -> bool
+    requires { ⌜ (at ≤ length (now a)) × (length (now a) ≡ length (now b)) ⌝ }
+    ensures { λ r. ⌜ r ≡ sameBytes (drop at (now (a .entry))) (drop at (now (b .entry))) ⌝ }
 {
-    let mut left = n;
-    while 0 < left {
-        if a[left - 1] != b[left - 1] {
+    let mut i = at;
+    while i < a.len() {
+        if a[i] != b[i] {
             return false;
         }
-        left -= 1;
+        i += 1;
     }
     true
 }
 
-// Whether the bytes are the same: by words, the last one first, in which identities of one domain differ.
+// Whether the bytes are the same: by words, then what is left.
 pub fn same_bytes(a: &[u8], b: &[u8]) -> bool
     ensures { λ r. ⌜ r ≡ sameBytes (now (a .entry)) (now (b .entry)) ⌝ }
 {
     if a.len() != b.len() {
         return false;
     }
-    let mut left = a.len();
-    while 4 <= left {
-        if word_at(a, left - 4) != word_at(b, left - 4) {
+    let mut at = 0;
+    while 4 <= a.len() - at {
+        if word_at(a, at) != word_at(b, at) {
             return false;
         }
-        left -= 4;
+        at += 4;
     }
-    same_front(a, b, left)
+    same_rest(a, b, at)
 }
 
 // The n bytes at `at`, or as many of them as there are.

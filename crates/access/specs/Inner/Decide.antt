@@ -16,7 +16,7 @@ use Rattle.access.specs.declared.steps.Found.the-variants.{At, End}
 use Rattle.access.specs.declared.decide.Turn.{Turn}
 use Rattle.access.specs.declared.decide.Turn.the-variants.{On, Denied}
 use Rattle.access.specs.Held.{heldOf, toEnd}
-use Rattle.access.specs.Open.{counts, isAllow, yesOrNo}
+use Rattle.access.specs.Open.{entryCounts, isAllow, yesOrNo}
 use Rattle.access.specs.Walk.{stepAt}
 
 -- the number of a fault of the held bytes: 6, 7, or 0 where there is none
@@ -42,7 +42,7 @@ pub record SidIn (t : List ℕ) : Type 0 where
 
 -- the entry counts, and has a bit that isn't decided yet
 unfoldable pub weighs : List ℕ → List (List ℕ) → ℕ → List ℕ → Bool
-weighs type sids left e = has left (maskOf e) && counts type sids e
+weighs type sids left e = has left (maskOf e) && entryCounts type sids e
 
 -- what is left to decide behind an entry: an allow decides its bits; none where a bit is denied
 unfoldable pub leftAfter : List ℕ → List (List ℕ) → ℕ → List ℕ → Option ℕ

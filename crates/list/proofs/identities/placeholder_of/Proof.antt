@@ -1,75 +1,78 @@
--- Twelve bytes that are the one placeholder, the other, or neither. Assumes nothing.
+-- The bytes are those of the one placeholder, of the other, or of neither. Assumes nothing.
 use borrow.Author.Needs.{needs}
 use native.Mathlib.Omega.{arith}
-use mathlib.Core.Path.{_≡_, sym, ap, _∙_}
-use mathlib.Core.Bool.{Bool, true, false}
-use mathlib.Core.List.{List}
-use Prim.Native.Nat.{ℕ}
+use mathlib.Core.Path.{_≡_, sym, _∙_}
 use denote.Ref.{now}
-use lib.ListN.{length, take}
-use lib.Seq.{take-all}
+use mathlib.Core.Bool.{true, false}
 use Rattle.list.specs.Bytes.{sameBytes}
 use Rattle.list.specs.Identity.{creator, placeholderOf}
-use Rattle.list.proofs.Sids.{not-twelve}
 use Rattle.list.proofs.identities.placeholder_of.Statement.{statement}
 use Rattle.list.proofs.identities.placeholder_of.Tie as tie
+use Rattle.list.proofs.identities.placeholder_of.Reads as reads
+use Rattle.list.proofs.identities.placeholder_of.Lts as lts
+use Rattle.list.proofs.numbers.same_bytes.Reads as same-bytes-reads
 
--- of twelve bytes the first twelve are all
-whole : (s k : List ℕ) → length s ≡ 12 → (r : Bool) → r ≡ sameBytes (take 12 s) k → sameBytes s k ≡ r
-whole s k e r h = ap (λ (t : List ℕ). sameBytes t k) (sym (take-all 12 s (omega arith))) ∙ sym h
+sub-same-bytes : tie.Need-sub-same-bytes
+sub-same-bytes c = search needs
+
+part-same-bytes-start : tie.Need-part-same-bytes-start
+part-same-bytes-start c = search needs
+
+part-same-bytes-end : tie.Need-part-same-bytes-end
+part-same-bytes-end c = search needs
+
+same-bytes-requires : tie.Need-same-bytes-requires
+same-bytes-requires c κs = search needs
 
 returns : tie.Need-returns
-returns c = sym (not-twelve _ (c .if1 .taken))
+unfolding placeholderOf
+returns c =
+    let s = now (c .before .before .before .before .before .before .args .s) in
+    let o : sameBytes s (creator 0) ≡ true = sym (c .before .same-bytes .ensures) ∙ c .if1 .taken in
+    simp o
 
-slice-aggregate-same-twelve : tie.Need-slice-aggregate-same-twelve
-slice-aggregate-same-twelve c = search needs
+sub-same-bytes-2 : tie.Need-sub-same-bytes-2
+sub-same-bytes-2 c = search needs
 
-same-twelve-requires : tie.Need-same-twelve-requires
-same-twelve-requires c κs = search needs
+part-same-bytes-start-2 : tie.Need-part-same-bytes-start-2
+part-same-bytes-start-2 c = search needs
+
+part-same-bytes-end-2 : tie.Need-part-same-bytes-end-2
+part-same-bytes-end-2 c = search needs
+
+same-bytes-requires-2 : tie.Need-same-bytes-requires-2
+same-bytes-requires-2 c κs = search needs
 
 returns-2 : tie.Need-returns-2
 unfolding placeholderOf
 returns-2 c =
-    let s = now (c .before .before .before .before .before .before .args .s) in
-    let e = c .before .before .before .before .if1 .left in
-    let o : sameBytes s (creator 0) ≡ true = whole s (creator 0) e _ (c .before .same-twelve .ensures) ∙ c .if2 .taken in
-    simp o
-
-slice-aggregate-same-twelve-2 : tie.Need-slice-aggregate-same-twelve-2
-slice-aggregate-same-twelve-2 c = search needs
-
-same-twelve-requires-2 : tie.Need-same-twelve-requires-2
-same-twelve-requires-2 c κs = search needs
+    let p = c .before .before .before .before .before in
+    let s = now (p .before .before .before .before .before .before .args .s) in
+    let o : sameBytes s (creator 0) ≡ false = sym (p .before .same-bytes .ensures) ∙ p .if1 .left in
+    let g : sameBytes s (creator 1) ≡ true = sym (c .before .same-bytes2 .ensures) ∙ c .if2 .taken in
+    simp (o, g)
 
 returns-3 : tie.Need-returns-3
 unfolding placeholderOf
 returns-3 c =
-    let p = c .before .before .before .before in
+    let p = c .before .before .before .before .before in
     let s = now (p .before .before .before .before .before .before .args .s) in
-    let e = p .before .before .before .before .if1 .left in
-    let o : sameBytes s (creator 0) ≡ false = whole s (creator 0) e _ (p .before .same-twelve .ensures) ∙ p .if2 .left in
-    let g : sameBytes s (creator 1) ≡ true = whole s (creator 1) e _ (c .before .same-twelve2 .ensures) ∙ c .if3 .taken in
-    simp (o, g)
-
-returns-4 : tie.Need-returns-4
-unfolding placeholderOf
-returns-4 c =
-    let p = c .before .before .before .before in
-    let s = now (p .before .before .before .before .before .before .args .s) in
-    let e = p .before .before .before .before .if1 .left in
-    let o : sameBytes s (creator 0) ≡ false = whole s (creator 0) e _ (p .before .same-twelve .ensures) ∙ p .if2 .left in
-    let g : sameBytes s (creator 1) ≡ false = whole s (creator 1) e _ (c .before .same-twelve2 .ensures) ∙ c .if3 .left in
+    let o : sameBytes s (creator 0) ≡ false = sym (p .before .same-bytes .ensures) ∙ p .if1 .left in
+    let g : sameBytes s (creator 1) ≡ false = sym (c .before .same-bytes2 .ensures) ∙ c .if2 .left in
     simp (o, g)
 
 pub placeholder-of-spec : {M : Type 1} → statement M
 placeholder-of-spec =
     tie.close
     (tie.spec
+    sub-same-bytes
+    part-same-bytes-start
+    part-same-bytes-end
+    same-bytes-requires
     returns
-    slice-aggregate-same-twelve
-    same-twelve-requires
+    sub-same-bytes-2
+    part-same-bytes-start-2
+    part-same-bytes-end-2
+    same-bytes-requires-2
     returns-2
-    slice-aggregate-same-twelve-2
-    same-twelve-requires-2
-    returns-3
-    returns-4)
+    returns-3)

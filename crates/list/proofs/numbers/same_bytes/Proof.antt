@@ -1,21 +1,24 @@
--- Behind `left` the bytes are the same; those before it, fewer than a word in the end, are left to compare. Assumes nothing.
+-- Up to `at` the bytes are the same. Assumes nothing.
 use borrow.Author.Needs.{needs}
 use native.Mathlib.Omega.{arith}
-use mathlib.Core.Path.{_≡_, sym, ap₂, _∙_}
-use Prim.Native.Nat.{_≤_}
+use mathlib.Core.Path.{_≡_, refl, sym, _∙_}
+use Prim.Native.Nat.{_-_, _≤_}
 use denote.Ref.{now}
-use lib.ListN.{length, take}
-use lib.Seq.{take-length}
+use lib.ListN.{length, drop}
 use Rattle.list.specs.Bytes.{sameBytes}
-use Rattle.list.proofs.Sids.{same-length, last-differs, last-same}
+use Rattle.list.proofs.Sids.{same-length, next-differs, next-same}
 use Rattle.list.proofs.numbers.same_bytes.Statement.{statement}
 use Rattle.list.proofs.numbers.same_bytes.Tie as tie
+use Rattle.list.proofs.numbers.same_bytes.Reads as reads
+use Rattle.list.proofs.numbers.same_bytes.Lts as lts
+use Rattle.list.proofs.numbers.same_rest.Reads as same-rest-reads
+use Rattle.list.proofs.numbers.word_at.Reads as word-at-reads
 
 abbrev Inv-loop : tie.InvT-loop
-Inv-loop a b left₀ left = (left ≤ length a) × (left ≤ length b) × (sameBytes a b ≡ sameBytes (take left a) (take left b))
+Inv-loop a b at₀ at = (at ≤ length a) × (length a ≡ length b) × (sameBytes a b ≡ sameBytes (drop at a) (drop at b))
 
 abbrev μ-loop : tie.MeasureT-loop
-μ-loop a b left₀ left = left
+μ-loop a b at₀ at = length a - at
 
 returns : tie.Need-returns Inv-loop μ-loop
 returns c =
@@ -23,9 +26,10 @@ returns c =
     sym (same-length (now (a .a)) (now (a .b)) (c .if1 .taken))
 
 loop-holds : tie.Need-loop-holds Inv-loop μ-loop
-loop-holds c =
-    let a = c .before .before .before .args in
-    (omega arith, omega arith, ap₂ sameBytes (sym (take-length (now (a .a)))) (rw (c .if1 .left) (sym (take-length (now (a .b))))))
+loop-holds c = (omega arith, c .if1 .left, refl)
+
+sub-loop : tie.Need-sub-loop Inv-loop μ-loop
+sub-loop c = search needs
 
 word-at-requires : tie.Need-word-at-requires Inv-loop μ-loop
 word-at-requires c κs = search needs
@@ -38,8 +42,11 @@ returns-2 c =
     let l = c .before .before .before .before in
     let a = l .before .before .before .before .args in
     sym (l .loop .inv .2
-    ∙ last-differs 4 (l .loop .left) (now (a .a)) (now (a .b)) (omega arith) (l .loop .inv .0) (l .loop .inv .1)
+    ∙ next-differs 4 (l .loop .at) (now (a .a)) (now (a .b)) (omega arith) (omega arith)
     (λ e. c .if2 .taken (c .before .before .word-at .ensures ∙ e ∙ sym (c .before .word-at2 .ensures))))
+
+add-at : tie.Need-add-at Inv-loop μ-loop
+add-at c = search needs
 
 loop-less : tie.Need-loop-less Inv-loop μ-loop
 loop-less c = search needs
@@ -50,18 +57,18 @@ loop-again c =
     let k = l .before .before in
     let a = k .before .before .args in (
       omega arith,
-      omega arith,
+      l .loop .inv .1,
       l .loop .inv .2
-          ∙ last-same 4 (l .loop .left) (now (a .a)) (now (a .b)) (omega arith) (l .loop .inv .0) (l .loop .inv .1)
+          ∙ next-same 4 (l .loop .at) (now (a .a)) (now (a .b)) (omega arith) (omega arith)
           (λ i. k .before .shared-slice-known .given i .fits) (λ i. k .shared-slice-known2 .given i .fits)
           (sym (c .before .before .word-at .ensures) ∙ c .if2 .left ∙ c .before .word-at2 .ensures),
     )
 
-same-front-requires : tie.Need-same-front-requires Inv-loop μ-loop
-same-front-requires c κs = search needs
+same-rest-requires : tie.Need-same-rest-requires Inv-loop μ-loop
+same-rest-requires c κs = search needs
 
 returns-3 : tie.Need-returns-3 Inv-loop μ-loop
-returns-3 c = c .same-front .ensures ∙ sym (c .before .before .loop .inv .2)
+returns-3 c = c .same-rest .ensures ∙ sym (c .before .before .loop .inv .2)
 
 pub same-bytes-spec : {M : Type 1} → statement M
 same-bytes-spec =
@@ -71,10 +78,12 @@ same-bytes-spec =
     μ-loop
     returns
     loop-holds
+    sub-loop
     word-at-requires
     word-at-requires-2
     returns-2
+    add-at
     loop-less
     loop-again
-    same-front-requires
+    same-rest-requires
     returns-3)
