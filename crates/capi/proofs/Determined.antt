@@ -30,6 +30,10 @@ use Rattle.capi.proofs.pt_counts.Kinds as pt-counts
 use Rattle.capi.proofs.pt_counts.Reads as pt-counts-reads
 use Rattle.capi.proofs.pt_play.Kinds as pt-play
 use Rattle.capi.proofs.pt_play.Reads as pt-play-reads
+use Rattle.capi.proofs.pt_step.Kinds as pt-step
+use Rattle.capi.proofs.pt_step.Reads as pt-step-reads
+use Rattle.capi.proofs.pt_may_open.Kinds as pt-may-open
+use Rattle.capi.proofs.pt_may_open.Reads as pt-may-open-reads
 use Rattle.capi.proofs.pt_read.Kinds as pt-read
 use Rattle.capi.proofs.pt_read.Reads as pt-read-reads
 
@@ -94,3 +98,11 @@ pt-counts-determined κs a x y s t p q = p ∙ sym q
 pub pt-play-determined : Determines 3 pt-play.ps pt-play.r
     (λ κs x y s t. (now (s .1 .0) ≡ now (t .1 .0)) × (now (s .1 .1 .0) ≡ now (t .1 .1 .0))) pt-play-reads.Learnt
 pt-play-determined κs a x y s t p q = (p .1 ∙ sym (q .1), p .0 ∙ sym (q .0))
+
+-- the entry and the answer afterwards
+pub pt-step-determined : Determines 3 pt-step.ps pt-step.r (λ κs x y s t. (now (s .1 .1 .0) ≡ now (t .1 .1 .0)) × (now (s .1 .1 .1 .0) ≡ now (t .1 .1 .1 .0))) pt-step-reads.Learnt
+pt-step-determined κs a x y s t p q = (p .1 ∙ sym (q .1), p .0 ∙ sym (q .0))
+
+-- the answer afterwards
+pub pt-may-open-determined : Determines 4 pt-may-open.ps pt-may-open.r (λ κs x y s t. now (s .1 .1 .1 .1 .1 .0) ≡ now (t .1 .1 .1 .1 .1 .0)) pt-may-open-reads.Learnt
+pt-may-open-determined κs a x y s t p q = p ∙ sym q
