@@ -78,7 +78,7 @@ edits: second
 	tools/edits
 
 # made anew where something of the layers has changed
-LAYERS = list inherit tree script capi
+LAYERS = list access inherit tree script capi
 lib: libpipeteasel.a
 libpipeteasel.a: crates.txt $(shell find $(LAYERS:%=crates/%) -type f)
 	rt staticlib capi
