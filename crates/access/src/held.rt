@@ -5,7 +5,7 @@ ghost use Prim.Native.Nat.{_+_, _-_, _≤_};
 ghost use lib.ListN.{length, take, drop};
 ghost use Rattle.list.specs.Bytes.{sameBytes, among};
 ghost use Rattle.access.specs.Held.{heldOf, toEnd};
-ghost use Rattle.access.specs.Inner.Decide.{heldFault, markOf};
+ghost use Rattle.access.specs.Inner.Decide.{heldFault, lastOf};
 use list::same_bytes;
 use list::sid_in;
 
@@ -31,12 +31,15 @@ pub(crate) fn held_fault(held: &[u8]) -> u8
     0
 }
 
-// Whether the held SID from `at` to `end` is that one. `mark` is the first byte of its last number, in which SIDs of one domain differ.
+// Whether the held SID from `at` to `end` is that one. `mark` is the first byte of its last number: there, and in the next byte, SIDs of one domain differ.
 fn is_named(held: &[u8], at: usize, end: usize, sid: &[u8], mark: u8) -> bool
-    requires { ⌜ (at + 8 ≤ end) × (end ≤ length (now held)) × (mark ≡ markOf (now sid)) ⌝ }
+    requires { ⌜ (at + 8 ≤ end) × (end ≤ length (now held)) × (8 ≤ length (now sid)) × (mark ≡ lastOf 4 (now sid)) ⌝ }
     ensures { λ r. ⌜ r ≡ sameBytes (take (end - at) (drop at (now (held .entry)))) (now (sid .entry)) ⌝ }
 {
     if held[end - 4] != mark {
+        return false;
+    }
+    if held[end - 3] != sid[sid.len() - 3] {
         return false;
     }
     same_bytes(&held[at..end], sid)

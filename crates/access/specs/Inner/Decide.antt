@@ -23,9 +23,9 @@ use Rattle.access.specs.Walk.{stepAt}
 unfoldable pub heldFault : List ℕ → ℕ
 heldFault h = need (toEnd h) 6 (need (leb (length (heldOf h)) 32) 7 0)
 
--- the first byte of a SID's last number
-abbrev pub markOf : List ℕ → ℕ
-markOf s = getD s (length s - 4) 0
+-- the byte k places before the end: of a SID 4 is the first byte of its last number
+abbrev pub lastOf : ℕ → List ℕ → ℕ
+lastOf k s = getD s (length s - k) 0
 
 -- the answer where the list has no fault
 unfoldable pub toldBy : ℕ → Bool → Access

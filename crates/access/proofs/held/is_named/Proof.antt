@@ -1,9 +1,9 @@
--- Another byte at the mark says that the bytes differ; else they are compared. Assumes nothing.
+-- Another byte at the mark, or behind it, says that the bytes differ; else they are compared. Assumes nothing.
 use borrow.Author.Needs.{needs}
 use native.Mathlib.Omega.{arith}
-use mathlib.Core.Path.{_≡_, sym, _∙_}
+use mathlib.Core.Path.{sym, _∙_}
 use denote.Ref.{now}
-use Rattle.access.proofs.Holds.{other-mark}
+use Rattle.access.proofs.Holds.{other-byte}
 use Rattle.access.proofs.held.is_named.Statement.{statement}
 use Rattle.access.proofs.held.is_named.Tie as tie
 use Rattle.access.proofs.held.is_named.Reads as reads
@@ -20,7 +20,25 @@ returns : tie.Need-returns
 returns c =
     let s = c .before .before .before .before in
     let a = s .args in
-    sym (other-mark (now (a .sid)) (now (a .held)) (a .at) (a .end) (s .pre .0) (s .pre .1) (λ e. c .if1 .taken (e ∙ sym (s .pre .2))))
+    sym (other-byte 4 (now (a .sid)) (now (a .held)) (a .at) (a .end) (omega arith) (omega (arith, s .pre .0)) (s .pre .1) (λ e. c .if1 .taken (e ∙ sym (s .pre .3))))
+
+sub-if2 : tie.Need-sub-if2
+sub-if2 c = search needs
+
+shared-slice-read-if2 : tie.Need-shared-slice-read-if2
+shared-slice-read-if2 c = search needs
+
+sub-if2-2 : tie.Need-sub-if2-2
+sub-if2-2 c = search needs
+
+shared-slice-read-if2-2 : tie.Need-shared-slice-read-if2-2
+shared-slice-read-if2-2 c = search needs
+
+returns-2 : tie.Need-returns-2
+returns-2 c =
+    let s = c .before .before .before .before .before .before .before in
+    let a = s .args in
+    sym (other-byte 3 (now (a .sid)) (now (a .held)) (a .at) (a .end) (omega arith) (omega (arith, s .pre .0)) (s .pre .1) (c .if2 .taken))
 
 sub-same-bytes : tie.Need-sub-same-bytes
 sub-same-bytes c = search needs
@@ -34,8 +52,8 @@ part-same-bytes-end c = search needs
 same-bytes-requires : tie.Need-same-bytes-requires
 same-bytes-requires c κs = search needs
 
-returns-2 : tie.Need-returns-2
-returns-2 c = search needs
+returns-3 : tie.Need-returns-3
+returns-3 c = search needs
 
 pub is-named-spec : {M : Type 1} → statement M
 is-named-spec =
@@ -44,8 +62,13 @@ is-named-spec =
     sub-if1
     shared-slice-read-if1
     returns
+    sub-if2
+    shared-slice-read-if2
+    sub-if2-2
+    shared-slice-read-if2-2
+    returns-2
     sub-same-bytes
     part-same-bytes-start
     part-same-bytes-end
     same-bytes-requires
-    returns-2)
+    returns-3)

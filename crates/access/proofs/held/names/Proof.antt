@@ -56,7 +56,7 @@ add-end-3 : tie.Need-add-end-3 Inv-loop μ-loop
 add-end-3 c = omega (arith, next c .inside)
 
 is-named-requires : tie.Need-is-named-requires Inv-loop μ-loop
-is-named-requires c κs = (next c .long, next c .inside, refl)
+is-named-requires c κs = (next c .long, next c .inside, c .before .before .before .before .before .before .pre .0, refl)
 
 returns : tie.Need-returns Inv-loop μ-loop
 returns c =
