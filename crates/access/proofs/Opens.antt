@@ -1,7 +1,7 @@
 -- The answer by cases, and over the bytes of a list that reads as done, cut where its entries end, as the code has it.
-use mathlib.Core.Path.{_≡_, refl, sym, ap, _∙_}
-use mathlib.Core.Bool.{Bool, true, false, not, cond}
-use mathlib.Core.List.{List, flatten}
+use mathlib.Core.Path.{_≡_, refl, ap, _∙_}
+use mathlib.Core.Bool.{Bool, true, false}
+use mathlib.Core.List.{List}
 use mathlib.Core.Option.{none, some}
 use Prim.Native.Nat.{ℕ, suc, _+_, _^_, _≤_, _<_}
 use native.Mathlib.Omega.{arith}
@@ -18,9 +18,7 @@ use Rattle.list.specs.declared.lists.Reading.the-variants.{Done as Read, Refuse
 use Rattle.list.proofs.Told.{told}
 use Rattle.list.proofs.Parts.{laid, fewer}
 use Rattle.list.proofs.Spare.{end-within}
-use Rattle.access.specs.declared.Access.{Access}
-use Rattle.access.specs.declared.Access.the-variants.{Yes, No, Refused}
-use Rattle.access.specs.declared.Pointed.{Pointed}
+use Rattle.access.specs.declared.Access.the-variants.{Refused}
 use Rattle.access.specs.declared.Pointed.the-variants.{Done, Refused as Stopped}
 use Rattle.access.specs.Held.{heldOf, toEnd}
 use Rattle.access.specs.Open.{Question, opensBy, opens, onRead, readFirst, yesOrNo, mayOpenOf}

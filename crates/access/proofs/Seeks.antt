@@ -1,11 +1,10 @@
 -- How the code finds the first entry at or after a place, and that it is the one that the definition says.
 use mathlib.Core.Path.{_≡_, refl, sym, ap, _∙_}
-use mathlib.Core.Bool.{Bool, true, false, cond, _||_, or-true}
-use mathlib.Core.List.{List, [], _∷_}
+use mathlib.Core.Bool.{or-true}
+use mathlib.Core.List.{List, _∷_}
 use Prim.Native.Nat.{ℕ, zero, suc, _+_, _≤_, _<_}
 use native.Mathlib.Omega.{arith}
 use lib.ListN.{length, drop}
-use lib.Dec.{eqb, leb}
 use borrow.Author.Tests.{eq-eqb, ne-eqb, le-leb, lt-leb}
 use Rattle.list.specs.Entry.{access, sizeOf, fieldsOf}
 use Rattle.list.specs.List.{revOf, cut}
@@ -16,7 +15,7 @@ use Rattle.access.specs.declared.steps.Found.{Found}
 use Rattle.access.specs.declared.steps.Found.the-variants.{At, End}
 use Rattle.access.specs.Walk.{walkOver, firstFrom, stepAt, pastBy, nextAt}
 use Rattle.access.specs.Inner.Seek.{seekFrom}
-use Rattle.access.proofs.Walks.{Stepped, stepped, Walking, walking-end, walking-step, walking-more, told-more, next-is}
+use Rattle.access.proofs.Walks.{stepped, Walking, walking-end, walking-step, walking-more, told-more, next-is}
 
 module _ (s : List ℕ) (place : ℕ) where
   -- ---- one step

@@ -2,7 +2,7 @@
 use mathlib.Core.Path.{_≡_, refl, subst}
 use mathlib.Core.Bool.{Bool, true, false, cond}
 use mathlib.Core.List.{List, [], _∷_, flatten}
-use Prim.Native.Nat.{ℕ, _+_, _≤_, _<_}
+use Prim.Native.Nat.{ℕ, _+_, _≤_}
 use native.Mathlib.Omega.{arith}
 use lib.ListN.{length, length-append}
 use lib.Dec.{leb}
@@ -19,8 +19,7 @@ use Rattle.list.proofs.Spare.{end-within, bytes-sized}
 use Rattle.list.proofs.Remade.{bounds}
 use Rattle.access.specs.declared.steps.Found.{Found}
 use Rattle.access.specs.declared.steps.Found.the-variants.{At, End}
-use Rattle.access.specs.declared.Pointed.{Pointed}
-use Rattle.access.specs.declared.Pointed.the-variants.{Done, Refused}
+use Rattle.access.specs.declared.Pointed.the-variants.{Done}
 use Rattle.access.specs.Walk.{walkOver, walkThrough, firstFrom, onWalk, pointedOf}
 
 -- the parts of an entry lie inside it, and it ends at the next place, which is at most `most`

@@ -1,7 +1,7 @@
 -- How the code decides over bytes is how it decides over entries; and its loop, step by step.
-use mathlib.Core.Path.{_≡_, refl, sym, ap, ap₂, _∙_}
-use mathlib.Core.Bool.{Bool, true, false, not, cond, _&&_, _||_}
-use mathlib.Core.List.{List, [], _∷_}
+use mathlib.Core.Path.{_≡_, refl, sym, ap, _∙_}
+use mathlib.Core.Bool.{Bool, true, false, not, cond, _||_}
+use mathlib.Core.List.{List}
 use mathlib.Core.Option.{Option, none, some}
 use Prim.Native.Nat.{ℕ, zero, suc, _+_, _≤_, _<_}
 use native.Mathlib.Omega.{arith}
@@ -9,8 +9,8 @@ use lib.ListN.{length, take, drop}
 use lib.Seq.{drop-drop}
 use lib.Dec.{eqb}
 use borrow.Author.Tests.{eq-eqb, ne-eqb}
-use Rattle.list.specs.Bytes.{has, among, sameBytes, guidAt}
-use Rattle.list.specs.Entry.{access, objectKind, kindOf, flagsOf, maskOf, wordOf, sidOf, sizeOf, fieldsOf}
+use Rattle.list.specs.Bytes.{has, sameBytes}
+use Rattle.list.specs.Entry.{access, objectKind, kindOf, wordOf, sizeOf}
 use Rattle.list.specs.List.{revOf, cut}
 use Rattle.list.specs.Good.{Sound}
 use Rattle.list.specs.declared.entries.Entry.{Entry}
@@ -22,7 +22,7 @@ use Rattle.access.specs.declared.decide.Turn.the-variants.{On, Denied}
 use Rattle.access.specs.Open.{typeCounts, entryCounts}
 use Rattle.access.specs.Walk.{stepAt}
 use Rattle.access.specs.Inner.Decide.{weighs, leftAfter, ifLeft, decided, turnWith, turnBy, turnAt, ifOn, decidedFrom}
-use Rattle.access.proofs.Walks.{Stepped, stepped, Walking, walking-end, walking-step, walking-more}
+use Rattle.access.proofs.Walks.{stepped, Walking, walking-end, walking-step, walking-more}
 
 -- ---- what follows a good entry doesn't count
 

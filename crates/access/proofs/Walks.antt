@@ -1,10 +1,9 @@
 -- Stepping through a list that reads as done, cut where its entries end: each step finds the next entry, and the last one the end.
 use mathlib.Core.Path.{_≡_, refl, sym, ap, ap₂, _∙_}
-use mathlib.Core.Bool.{Bool, true, false, cond}
 use mathlib.Core.List.{List, [], _∷_, _++_, append-assoc, append-nil, flatten}
 use Prim.Native.Nat.{ℕ, zero, suc, _+_, _≤_, _<_}
 use native.Mathlib.Omega.{arith}
-use lib.ListN.{length, take, drop, getD, length-append, length-drop, drop-of-length-le, take-append-drop}
+use lib.ListN.{length, take, drop, length-append, length-drop}
 use lib.Seq.{drop-drop, drop-at, take-at, length-take-le, getD-take}
 use Rattle.list.specs.Entry.{access, sizeOf, fieldsOf, entryOf}
 use Rattle.list.specs.List.{revOf, cut, entriesOf, entriesEnd, checkOf}
@@ -13,7 +12,7 @@ use Rattle.list.specs.declared.entries.Entry.{Entry}
 use Rattle.list.specs.declared.entries.Checked.{Checked}
 use Rattle.list.specs.declared.entries.Checked.the-variants.{Good, Bad}
 use Rattle.list.specs.declared.lists.Reading.{Reading}
-use Rattle.list.specs.declared.lists.Reading.the-variants.{Done as Read, Refused as Unread}
+use Rattle.list.specs.declared.lists.Reading.the-variants.{Done as Read}
 use Rattle.list.proofs.Cases.{bad-a, is-good, sound, fields}
 use Rattle.list.proofs.Told.{told}
 use Rattle.list.proofs.Pieces.{fields-same}
@@ -22,7 +21,7 @@ use Rattle.list.proofs.Spare.{end-within}
 use Rattle.list.proofs.Remade.{bounds, cut-same}
 use Rattle.access.specs.declared.steps.Found.{Found}
 use Rattle.access.specs.declared.steps.Found.the-variants.{At, End}
-use Rattle.access.specs.Walk.{walkOver, walkThrough, walkedBy, walkedOf, foundBy, stepAt, pastBy, nextAt, onStep, walkFrom}
+use Rattle.access.specs.Walk.{walkOver, walkThrough, walkedBy, walkedOf, foundBy, stepAt, pastBy, nextAt, walkOn, walkFrom}
 
 -- ---- one step
 
@@ -113,14 +112,14 @@ next-is s k at w = ap (λ (x : Found). pastBy x at) (walking-step s k at w)
 
 -- stepping on gives the entries, each once, in order, and then the end, however many steps are allowed
 pub walks : (s : List ℕ) (k at n : ℕ) → Walking s k at → k ≤ n → walkFrom n s at ≡ walkOver at (cut k (drop at s))
-unfolding walkFrom walkOver cut onStep
+unfolding walkFrom walkOver cut walkOn
 walks s zero at zero w l = refl
-walks s zero at (suc n) w l = ap (λ (x : Found). onStep x (walkFrom n s (nextAt s at))) (walking-end s at w)
+walks s zero at (suc n) w l = ap (λ (x : Found). walkOn x (walkFrom n s (nextAt s at))) (walking-end s at w)
 walks s (suc k) at zero w l = absurd (omega arith)
 walks s (suc k) at (suc n) w l =
     let t = drop at s in
     let z = sizeOf t in
-    ap (λ (x : Found). onStep x (walkFrom n s (nextAt s at))) (walking-step s k at w)
+    ap (λ (x : Found). walkOn x (walkFrom n s (nextAt s at))) (walking-step s k at w)
     ∙ ap (λ (x : ℕ). At at (fieldsOf t) (at + z) ∷ walkFrom n s x) (next-is s k at w)
     ∙ ap (λ (x : List Found). At at (fieldsOf t) (at + z) ∷ x) (walks s k (at + z) n (walking-more s k at w) (omega arith))
     ∙ sym (told-more s k at w)

@@ -1,6 +1,6 @@
 -- Questions worked by hand, each as small as can be, and the walk over a list, by computation.
 use mathlib.Core.Path.{_≡_, refl}
-use mathlib.Core.Bool.{Bool, true, false}
+use mathlib.Core.Bool.{true, false}
 use mathlib.Core.List.{List, [], _∷_, _++_, map, flatten}
 use mathlib.Core.Option.{none, some}
 use Prim.Native.Nat.{ℕ, _+_}
@@ -15,7 +15,7 @@ use Rattle.access.specs.declared.steps.Found.{Found}
 use Rattle.access.specs.declared.steps.Found.the-variants.{At, End}
 use Rattle.access.specs.Held.{sidsIn, heldOf, toEnd}
 use Rattle.access.specs.Open.{Question, typeCounts, entryCounts, isAllow, granted, eachBit, opensBy, opens, onRead, readFirst, mayOpenOf, accessValues}
-use Rattle.access.specs.Walk.{walkOver, walkThrough, firstFrom, onWalk, pointedOf, pointedValues, walkedBy, walkedOf, foundBy, stepAt, pastBy, nextAt, onStep, walkFrom}
+use Rattle.access.specs.Walk.{walkOver, walkThrough, firstFrom, onWalk, pointedOf, pointedValues, walkedBy, walkedOf, foundBy, pastBy, walkOn, walkFrom}
 use Rattle.access.specs.Said.{spoken, ordinaryOf}
 
 -- S-1-5-n: a person, the crew, the freelancers; and S-1-3-0
@@ -159,5 +159,5 @@ pub walk-worked :
     × ((length (walkedOf two) ≡ 68)
     × ((map pointedValues (pointedOf two 9 ∷ pointedOf two 29 ∷ pointedOf (7 ∷ two) 0 ∷ []) ≡ done 28 1 0 0 ∷ done 0 0 0 0 ∷ refused 1 0 0 ∷ [])
     × (walkedOf (7 ∷ two) ≡ [])))))
-unfolding two walkOver firstFrom onWalk walkedBy foundBy pastBy onStep walkFrom entriesOf cut test-open
+unfolding two walkOver firstFrom onWalk walkedBy foundBy pastBy walkOn walkFrom entriesOf cut test-open
 walk-worked = (refl, (refl, (refl, (refl, (refl, refl)))))

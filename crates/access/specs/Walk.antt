@@ -75,10 +75,10 @@ abbrev pub nextAt : List ℕ → ℕ → ℕ
 nextAt s at = pastBy (stepAt s at) at
 
 -- n steps from a place: what is found, up to the end
-unfoldable pub onStep : Found → List Found → List Found
-onStep (At at e next) rest = At at e next ∷ rest
-onStep End rest = []
+unfoldable pub walkOn : Found → List Found → List Found
+walkOn (At at e next) rest = At at e next ∷ rest
+walkOn End rest = []
 
 unfoldable pub walkFrom : ℕ → List ℕ → ℕ → List Found
 walkFrom zero s at = []
-walkFrom (suc n) s at = onStep (stepAt s at) (walkFrom n s (nextAt s at))
+walkFrom (suc n) s at = walkOn (stepAt s at) (walkFrom n s (nextAt s at))

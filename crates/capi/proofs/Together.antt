@@ -1,13 +1,11 @@
 -- Calls of two layers together: who may open an object with a computed list.
 use mathlib.Core.Path.{_≡_, sym, subst}
 use mathlib.Core.Bool.{true}
-use mathlib.Core.List.{List}
 use mathlib.Core.Option.{some}
 use Prim.Native.Nat.{ℕ, _≤_}
 use lib.ListN.{length}
 use Rattle.list.specs.Identity.{placeholderOf}
 use Rattle.list.specs.Entry.{access, sidOf}
-use Rattle.list.specs.List.{MaybeList}
 use Rattle.inherit.specs.Asked.{Asked}
 use Rattle.inherit.specs.Branch.{resultOf}
 use Rattle.inherit.specs.Compute.{computeOf, bytesFor}

@@ -5,7 +5,7 @@ ghost use Rattle.list.specs.Bytes.{has as Given·has};
 ghost use Rattle.list.specs.Identity.{identityOf};
 ghost use Rattle.list.specs.Entry.{access};
 ghost use Rattle.list.specs.List.{readOf, rowBy, lent};
-ghost use Rattle.list.specs.Answer.{readValues};
+ghost use Rattle.list.specs.Answer.{refused, readValues};
 ghost use Rattle.access.specs.Open.{mayOpenOf, accessValues, questionBy};
 ghost use Rattle.access.specs.Walk.{foundValues, pointedValues, pointedOf};
 ghost use Rattle.inherit.specs.Compute.{askedBy};
@@ -38,6 +38,13 @@ fn put_values(
     ensures { λ _. ⌜ now (answer .exit) ≡ placesOf (record { number = number; list = list; offset = offset; length = length; present = present; count = count; control = control; end = end }) ⌝ }
 {
     *answer = [number, list, offset, length, present, count, control, end];
+}
+
+// A refusal outside the computation and the tree: it concerns list 0.
+fn put_refused(answer: &mut [u32; 8], number: u8, at: u16)
+    ensures { λ _. ⌜ now (answer .exit) ≡ placesOf (refused number 0 at) ⌝ }
+{
+    put_values(answer, number as u32, 0, at as u32, 0, 0, 0, 0, 0);
 }
 
 // A flag that is passed as a bit of a number.
@@ -102,17 +109,7 @@ pub extern "C" fn pt_read(list: &[u8], row: &mut [u16], answer: &mut [u32; 8])
             0,
             end as u32,
         ),
-        Reading::Refused { number, at } => put_values(
-            answer,
-            number as u32,
-            0,
-            at as u32,
-            0,
-            0,
-            0,
-            0,
-            0,
-        ),
+        Reading::Refused { number, at } => put_refused(answer, number, at),
     }
 }
 
@@ -152,7 +149,7 @@ pub extern "C" fn pt_step(list: &[u8], place: u32, entry: &mut [u32; 8], answer:
         Pointed::Done(found) => put_found(entry, answer, found),
         Pointed::Refused { number, at } => {
             *entry = [0; 8];
-            put_values(answer, number as u32, 0, at as u32, 0, 0, 0, 0, 0);
+            put_refused(answer, number, at);
         }
     }
 }
@@ -172,17 +169,7 @@ pub extern "C" fn pt_may_open(
     match access::may_open(given != 0, list, *kind, held, wanted) {
         Access::Yes => put_values(answer, 0, 0, 0, 1, 0, 0, 0, 0),
         Access::No => put_values(answer, 0, 0, 0, 0, 0, 0, 0, 0),
-        Access::Refused { number, at } => put_values(
-            answer,
-            number as u32,
-            0,
-            at as u32,
-            0,
-            0,
-            0,
-            0,
-            0,
-        ),
+        Access::Refused { number, at } => put_refused(answer, number, at),
     }
 }
 

@@ -9,7 +9,7 @@ use Rattle.list.specs.Bytes.{le, spell, sameBytes, guidAt, among}
 use Rattle.list.specs.Identity.{sidLen, isSid, creator, placeholderOf, identityOf}
 use Rattle.list.specs.Order.{need}
 use Rattle.list.specs.Entry.{plainOf, objectOf, objectKind, kindOk, flagsOk, headOf, wordAfter, entryBytes, tailOk, entryOf}
-use Rattle.list.specs.List.{revOk, headerOk, cut, entriesOf, headBytes, render, onGood, walkOf, finish, checkOf, MaybeList, lent}
+use Rattle.list.specs.List.{revOk, headerOk, cut, entriesOf, headBytes, render, onGood, walkOf, finish, checkOf, MaybeList}
 use Rattle.list.specs.Answer.{Values, done, refused}
 use Rattle.inherit.specs.declared.Mapping.{Mapping}
 use Rattle.inherit.specs.declared.Computed.the-variants.{Present, Absent, Refused}
@@ -146,10 +146,6 @@ pub masks-worked :
     × (mapped mapping 0xF0000001 ≡ 0xF01201BF))))
 unfolding mapped
 masks-worked = (refl, (refl, (refl, (refl, refl))))
-
--- a list that is given is that list, an empty one too; else there is none
-pub lent-worked : (s : List ℕ) → (lent true s ≡ some s) × (lent false s ≡ none)
-lent-worked s = (refl, refl)
 
 -- ---- what K1 to K12 leave open, worked by hand from RULES 2 and 4.4
 

@@ -2,13 +2,14 @@
 use mathlib.Core.Path.{_≡_, refl}
 use mathlib.Core.Bool.{true, false}
 use mathlib.Core.List.{List, [], _∷_, _++_, map}
+use mathlib.Core.Option.{none, some}
 use Prim.Native.Nat.{ℕ}
 use lib.ListN.{take, replicate}
 use Rattle.list.specs.Bytes.{le, spell, has, sameBytes, among, part, putOn, putAt, guidAt}
 use Rattle.list.specs.Identity.{sidLen, wholeSid, isSid, placeholderOf, identityOf, bytesOf, placeholderSid, madeOf}
 use Rattle.list.specs.Order.{need}
 use Rattle.list.specs.Entry.{access, plainOf, objectOf, objectKind, kindOk, flagsOk, headOf, wordAfter, tailOk, entryOf}
-use Rattle.list.specs.List.{revOk, headerOk, onGood, walkOf, finish, checkOf, withRow, readOf, offsets, rowBy, cut, entriesOf}
+use Rattle.list.specs.List.{lent, revOk, headerOk, onGood, walkOf, finish, checkOf, withRow, readOf, offsets, rowBy, cut, entriesOf}
 use Rattle.list.specs.Spare.{withSpare, bareBy, bare, sizeSum}
 use Rattle.list.specs.Answer.{Values, readDone, refused, readValues}
 
@@ -111,6 +112,10 @@ pub tests-worked :
     × ((among (1 ∷ 2 ∷ []) ((1 ∷ 2 ∷ 3 ∷ []) ∷ (2 ∷ 1 ∷ []) ∷ (1 ∷ []) ∷ []) ≡ false) × (among [] [] ≡ false))))))
 unfolding among sameBytes
 tests-worked = (refl, (refl, (refl, (refl, (refl, (refl, refl))))))
+
+-- a list that is given is that list, an empty one too; else there is none
+pub lent-worked : (s : List ℕ) → (lent true s ≡ some s) × (lent false s ≡ none)
+lent-worked s = (refl, refl)
 
 -- ---- identities (RULES 1.2, 1.3): S-1-5-18, the two placeholders in their bytes, and what comes near them
 

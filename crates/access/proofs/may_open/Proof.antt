@@ -21,13 +21,6 @@ use Rattle.access.specs.Inner.Decide.{heldFault, toldBy, decidedFrom}
 use Rattle.access.proofs.Opens.{wants-generic, without-list, unread, read, fault-told, no-fault, decided-all}
 use Rattle.access.proofs.may_open.Statement.{statement}
 use Rattle.access.proofs.may_open.Tie as tie
-use Rattle.access.proofs.may_open.Reads as reads
-use Rattle.access.proofs.may_open.Lts as lts
-use Rattle.access.proofs.decide.decide.Reads as decide-reads
-use Rattle.access.proofs.held.held_fault.Reads as held-fault-reads
-use Rattle.access.proofs.told.Reads as told-reads
-use Rattle.list.proofs.check.Reads as check-reads
-use Rattle.list.proofs.part_of.Reads as part-of-reads
 
 abbrev asked : tie.Start → Question
 asked s = questionBy (s .args .given) (now (s .args .list)) (s .args .guid) (now (s .args .held)) (s .args .wanted)

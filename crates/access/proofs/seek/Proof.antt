@@ -1,7 +1,7 @@
 -- Whatever is found from `at` on is found from the first entry on. Assumes nothing.
 use borrow.Author.Needs.{needs}
 use native.Mathlib.Omega.{arith}
-use mathlib.Core.Path.{_≡_, sym, subst, _∙_}
+use mathlib.Core.Path.{sym, subst, _∙_}
 use Prim.Native.Nat.{ℕ, _-_, _≤_, _<_}
 use denote.Ref.{now}
 use lib.ListN.{length}
@@ -9,9 +9,6 @@ use Rattle.access.specs.Walk.{nextAt}
 use Rattle.access.proofs.Seeks.{Seeks, next-forth, seeks-here, seeks-end, seeks-on}
 use Rattle.access.proofs.seek.Statement.{statement}
 use Rattle.access.proofs.seek.Tie as tie
-use Rattle.access.proofs.seek.Reads as reads
-use Rattle.access.proofs.seek.Lts as lts
-use Rattle.access.proofs.steps.next_at.Reads as next-at-reads
 
 abbrev Inv-loop : tie.InvT-loop
 Inv-loop entries place at₀ at = (r : ℕ) → Seeks entries place at r → Seeks entries place 8 r

@@ -1,4 +1,5 @@
 -- The list's own check says whether it reads as done; then the entry is sought up to where the entries end. Assumes nothing.
+use Rattle.access.specs.declared.Pointed.the-variants.{Done as Stepped}
 use borrow.Author.Needs.{needs}
 use native.Mathlib.Omega.{arith}
 use mathlib.Core.Path.{_≡_, sym, ap, subst, _∙_}
@@ -8,21 +9,14 @@ use denote.Ref.{now}
 use lib.ListN.{length, take}
 use Rattle.list.specs.Entry.{access}
 use Rattle.list.specs.List.{checkOf}
-use Rattle.list.specs.declared.lists.Reading.the-variants.{Done, Refused}
+use Rattle.list.specs.declared.lists.Reading.the-variants.{Done}
 use Rattle.list.proofs.Answers.{checked}
 use Rattle.list.proofs.Places.{part-first}
-use Rattle.access.specs.declared.Pointed.the-variants.{Done as Stepped}
 use Rattle.access.specs.Walk.{stepAt}
 use Rattle.access.specs.Inner.Seek.{seekFrom}
 use Rattle.access.proofs.Opens.{sought, pointed, stopped}
 use Rattle.access.proofs.step_from.Statement.{statement}
 use Rattle.access.proofs.step_from.Tie as tie
-use Rattle.access.proofs.step_from.Reads as reads
-use Rattle.access.proofs.step_from.Lts as lts
-use Rattle.access.proofs.seek.Reads as seek-reads
-use Rattle.access.proofs.steps.step_at.Reads as step-at-reads
-use Rattle.list.proofs.check.Reads as check-reads
-use Rattle.list.proofs.part_of.Reads as part-of-reads
 
 check-requires : tie.Need-check-requires
 check-requires c κs = search needs

@@ -1,14 +1,8 @@
 -- By cases. Assumes nothing.
-use borrow.Author.Needs.{needs}
-use native.Mathlib.Omega.{arith}
-use mathlib.Core.Path.{_≡_, sym}
-use mathlib.Core.Bool.{true, false}
 use borrow.Author.Tests.{eq-eqb, ne-eqb}
 use Rattle.access.specs.Inner.Decide.{toldBy}
 use Rattle.access.proofs.told.Statement.{statement}
 use Rattle.access.proofs.told.Tie as tie
-use Rattle.access.proofs.told.Reads as reads
-use Rattle.access.proofs.told.Lts as lts
 
 returns : tie.Need-returns
 unfolding toldBy

@@ -1,16 +1,11 @@
 -- What `access::may_open` answers, in its places. Assumes nothing.
 use borrow.Author.Needs.{needs}
-use native.Mathlib.Omega.{arith}
 use mathlib.Core.Path.{sym, ap, _∙_}
 use Rattle.access.specs.Open.{accessValues}
 use Rattle.access.specs.declared.Access.{Access}
 use Rattle.capi.specs.Places.{placesOf}
 use Rattle.capi.proofs.pt_may_open.Statement.{statement}
 use Rattle.capi.proofs.pt_may_open.Tie as tie
-use Rattle.capi.proofs.pt_may_open.Reads as reads
-use Rattle.capi.proofs.pt_may_open.Lts as lts
-use Rattle.access.proofs.may_open.Reads as may-open-reads
-use Rattle.capi.proofs.put_values.Reads as put-values-reads
 
 may-open-requires : tie.Need-may-open-requires
 may-open-requires c κs = search needs
@@ -30,14 +25,8 @@ put-values-requires-2 c κs = search needs
 enum-known-number : tie.Need-enum-known-number
 enum-known-number c = search needs
 
-cast-put-values : tie.Need-cast-put-values
-cast-put-values c = search needs
-
-cast-put-values-2 : tie.Need-cast-put-values-2
-cast-put-values-2 c = search needs
-
-put-values-requires-3 : tie.Need-put-values-requires-3
-put-values-requires-3 c κs = search needs
+put-refused-requires : tie.Need-put-refused-requires
+put-refused-requires c κs = search needs
 
 returns : tie.Need-returns
 returns c =
@@ -52,7 +41,7 @@ returns-2 c =
 returns-3 : tie.Need-returns-3
 returns-3 c =
     let k = c .before .before .before in
-    c .put-values3 .ensures ∙ ap (λ (a : Access). placesOf (accessValues a)) (sym (k .number .given .1) ∙ k .before .before .may-open .ensures)
+    c .put-refused .ensures ∙ ap (λ (a : Access). placesOf (accessValues a)) (sym (k .number .given .1) ∙ k .before .before .may-open .ensures)
 
 pub pt-may-open-spec : {M : Type 1} → statement M
 pt-may-open-spec =
@@ -64,9 +53,7 @@ pt-may-open-spec =
     enum-told-2
     put-values-requires-2
     enum-known-number
-    cast-put-values
-    cast-put-values-2
-    put-values-requires-3
+    put-refused-requires
     returns
     returns-2
     returns-3)

@@ -27,14 +27,8 @@ put-values-requires c κs = search needs
 enum-known-number : tie.Need-enum-known-number
 enum-known-number c = search needs
 
-cast-put-values-4 : tie.Need-cast-put-values-4
-cast-put-values-4 c = search needs
-
-cast-put-values-5 : tie.Need-cast-put-values-5
-cast-put-values-5 c = search needs
-
-put-values-requires-2 : tie.Need-put-values-requires-2
-put-values-requires-2 c κs = search needs
+put-refused-requires : tie.Need-put-refused-requires
+put-refused-requires c κs = search needs
 
 same-length : tie.Need-same-length
 same-length c = search needs
@@ -50,7 +44,7 @@ same-length-2 c = search needs
 returns-2 : tie.Need-returns-2
 returns-2 c =
     let v = c .before .before .before .before .before .before .before .read in
-    (c .put-values2 .ensures ∙ ap placesOf (sym (ap readingValues (c .before .before .before .number .given .1)) ∙ v .ensures .0), v .ensures .1)
+    (c .put-refused .ensures ∙ ap placesOf (sym (ap readingValues (c .before .before .before .number .given .1)) ∙ v .ensures .0), v .ensures .1)
 
 pub pt-read-spec : {M : Type 1} → statement M
 pt-read-spec =
@@ -63,9 +57,7 @@ pt-read-spec =
     cast-put-values-3
     put-values-requires
     enum-known-number
-    cast-put-values-4
-    cast-put-values-5
-    put-values-requires-2
+    put-refused-requires
     same-length
     returns
     same-length-2

@@ -1,7 +1,7 @@
 -- What `access::step_from` finds, in the places of answer and entry; what it tells of a list of bytes fits 32 bits. Assumes nothing.
 use borrow.Author.Needs.{needs}
 use native.Mathlib.Omega.{arith}
-use mathlib.Core.Path.{_≡_, refl, sym, ap, subst, _∙_}
+use mathlib.Core.Path.{_≡_, sym, ap, _∙_}
 use mathlib.Core.List.{List}
 use Prim.Native.Nat.{ℕ}
 use denote.Ref.{now}
@@ -15,11 +15,6 @@ use Rattle.access.proofs.Small.{pointed-small}
 use Rattle.capi.specs.Places.{placesOf, entryPlaces, Told32}
 use Rattle.capi.proofs.pt_step.Statement.{statement}
 use Rattle.capi.proofs.pt_step.Tie as tie
-use Rattle.capi.proofs.pt_step.Reads as reads
-use Rattle.capi.proofs.pt_step.Lts as lts
-use Rattle.access.proofs.step_from.Reads as step-from-reads
-use Rattle.capi.proofs.put_found.Reads as put-found-reads
-use Rattle.capi.proofs.put_values.Reads as put-values-reads
 
 told-fits : (s : List ℕ) (place : ℕ) (f : Found) → Bytes s → pointedOf s place ≡ Done f → Told32 f
 told-fits s place (At at e next) d h =
@@ -43,14 +38,8 @@ put-found-requires c κs =
 enum-known-number : tie.Need-enum-known-number
 enum-known-number c = search needs
 
-cast-put-values : tie.Need-cast-put-values
-cast-put-values c = search needs
-
-cast-put-values-2 : tie.Need-cast-put-values-2
-cast-put-values-2 c = search needs
-
-put-values-requires : tie.Need-put-values-requires
-put-values-requires c κs = search needs
+put-refused-requires : tie.Need-put-refused-requires
+put-refused-requires c κs = search needs
 
 returns : tie.Need-returns
 returns c =
@@ -62,7 +51,7 @@ returns-2 : tie.Need-returns-2
 returns-2 c =
     let k = c .before .before .before .before in
     let e = sym (k .number .given .1) ∙ k .before .before .step-from .ensures in
-    (c .put-values .ensures ∙ ap (λ (p : Pointed). placesOf (pointedValues p)) e, ap entryPlaces e)
+    (c .put-refused .ensures ∙ ap (λ (p : Pointed). placesOf (pointedValues p)) e, ap entryPlaces e)
 
 pub pt-step-spec : {M : Type 1} → statement M
 pt-step-spec =
@@ -72,8 +61,6 @@ pt-step-spec =
     enum-known-found
     put-found-requires
     enum-known-number
-    cast-put-values
-    cast-put-values-2
-    put-values-requires
+    put-refused-requires
     returns
     returns-2)

@@ -8,9 +8,6 @@ use Rattle.access.specs.Walk.{foundValues}
 use Rattle.capi.specs.Places.{placesOf, foundPlaces, Told32}
 use Rattle.capi.proofs.put_found.Statement.{statement}
 use Rattle.capi.proofs.put_found.Tie as tie
-use Rattle.capi.proofs.put_found.Reads as reads
-use Rattle.capi.proofs.put_found.Lts as lts
-use Rattle.capi.proofs.put_values.Reads as put-values-reads
 
 fits : (c : tie.After-found) → let x = c .found .given .0 in Told32 (At (x .0) (x .1 .0) (x .1 .1 .0))
 fits c = subst Told32 (c .found .given .1) (c .before .before .pre)

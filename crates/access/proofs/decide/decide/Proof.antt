@@ -12,9 +12,6 @@ use Rattle.access.specs.declared.decide.Turn.the-variants.{On}
 use Rattle.access.proofs.Turns.{Decides, turn-forth, decides-yes, decides-no, decides-on}
 use Rattle.access.proofs.decide.decide.Statement.{statement}
 use Rattle.access.proofs.decide.decide.Tie as tie
-use Rattle.access.proofs.decide.decide.Reads as reads
-use Rattle.access.proofs.decide.decide.Lts as lts
-use Rattle.access.proofs.decide.take_turn.Reads as take-turn-reads
 
 abbrev Inv-loop : tie.InvT-loop
 Inv-loop entries guid held wanted left₀ at₀ left at = (r : Bool) → Decides guid (heldOf held) entries left at r → Decides guid (heldOf held) entries wanted 8 r

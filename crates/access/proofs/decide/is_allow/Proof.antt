@@ -1,13 +1,8 @@
 -- By cases. Assumes nothing.
-use borrow.Author.Needs.{needs}
-use native.Mathlib.Omega.{arith}
-use mathlib.Core.Path.{_≡_, sym}
 use borrow.Author.Tests.{eq-eqb, ne-eqb}
 use Rattle.access.specs.Open.{isAllow}
 use Rattle.access.proofs.decide.is_allow.Statement.{statement}
 use Rattle.access.proofs.decide.is_allow.Tie as tie
-use Rattle.access.proofs.decide.is_allow.Reads as reads
-use Rattle.access.proofs.decide.is_allow.Lts as lts
 
 returns : tie.Need-returns
 unfolding isAllow

@@ -10,19 +10,12 @@ use lib.ListN.{length, take, drop, length-drop}
 use lib.Seq.{take-all}
 use Rattle.list.specs.Entry.{fieldsOf}
 use Rattle.list.specs.List.{revOf}
-use Rattle.list.specs.declared.entries.Entry.{Entry}
-use Rattle.access.specs.declared.steps.Found.{Found}
 use Rattle.access.specs.Held.{heldOf, toEnd}
-use Rattle.access.specs.Walk.{stepAt}
 use Rattle.access.specs.Inner.Decide.{SidIn, leftAfter, turnWith, turnBy}
 use Rattle.access.proofs.Walks.{Stepped, stepped}
 use Rattle.access.proofs.Weighs.{sid-in}
 use Rattle.access.proofs.decide.take_turn.Statement.{statement}
 use Rattle.access.proofs.decide.take_turn.Tie as tie
-use Rattle.access.proofs.decide.take_turn.Reads as reads
-use Rattle.access.proofs.decide.take_turn.Lts as lts
-use Rattle.access.proofs.decide.turn_past.Reads as turn-past-reads
-use Rattle.access.proofs.steps.step_at.Reads as step-at-reads
 
 -- the entry that is found, at the place that was asked for
 here : (c : tie.After-e)

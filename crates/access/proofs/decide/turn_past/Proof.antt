@@ -1,18 +1,12 @@
 -- By cases: passed over, allowed, denied. Assumes nothing.
 use borrow.Author.Needs.{needs}
-use native.Mathlib.Omega.{arith}
-use mathlib.Core.Path.{_≡_, sym, _∙_}
-use mathlib.Core.Bool.{true, false}
+use mathlib.Core.Path.{sym, _∙_}
 use denote.Ref.{now}
 use borrow.Author.Tests.{not-true, not-false}
 use Rattle.access.specs.Held.{heldOf}
 use Rattle.access.proofs.Weighs.{passed-over, allowed, denied}
 use Rattle.access.proofs.decide.turn_past.Statement.{statement}
 use Rattle.access.proofs.decide.turn_past.Tie as tie
-use Rattle.access.proofs.decide.turn_past.Reads as reads
-use Rattle.access.proofs.decide.turn_past.Lts as lts
-use Rattle.access.proofs.decide.is_allow.Reads as is-allow-reads
-use Rattle.access.proofs.decide.weighs.Reads as weighs-reads
 
 weighs-requires : tie.Need-weighs-requires
 weighs-requires c κs = search needs

@@ -1,23 +1,16 @@
 -- By cases: no object entry, no ObjectType, and one that is compared. Assumes nothing.
 use borrow.Author.Needs.{needs}
-use native.Mathlib.Omega.{arith}
 use mathlib.Core.Path.{_≡_, sym, ap, _∙_}
-use mathlib.Core.Bool.{Bool, true, false}
 use mathlib.Core.List.{List}
 use Prim.Native.Nat.{ℕ}
 use denote.Ref.{now}
 use lib.Bits.{bitAnd}
 use borrow.Author.Tests.{not-true, not-false}
-use Rattle.list.specs.Bytes.{sameBytes, guidAt}
+use Rattle.list.specs.Bytes.{sameBytes}
 use Rattle.list.specs.Entry.{objectKind, kindOf}
 use Rattle.access.proofs.Weighs.{plain-counts, untyped-counts, typed-counts}
 use Rattle.access.proofs.decide.type_counts.Statement.{statement}
 use Rattle.access.proofs.decide.type_counts.Tie as tie
-use Rattle.access.proofs.decide.type_counts.Reads as reads
-use Rattle.access.proofs.decide.type_counts.Lts as lts
-use Rattle.list.proofs.is_object.Reads as is-object-reads
-use Rattle.list.proofs.guid_at.Reads as guid-at-reads
-use Rattle.list.proofs.same_guid.Reads as same-guid-reads
 
 object-is : (c : tie.After-is-object) → objectKind (kindOf (now (c .before .before .args .t))) ≡ c .is-object .result
 object-is c = ap objectKind (sym (c .before .before .pre .0)) ∙ sym (c .is-object .ensures)

@@ -1,8 +1,7 @@
 -- By cases: no bit is left, IO, another type; then the SID decides. Assumes nothing.
 use borrow.Author.Needs.{needs}
 use native.Mathlib.Omega.{arith}
-use mathlib.Core.Path.{_≡_, sym, ap, _∙_}
-use mathlib.Core.Bool.{true, false}
+use mathlib.Core.Path.{sym, ap, _∙_}
 use Prim.Native.Nat.{_+_, _-_, _≤_}
 use denote.Ref.{now}
 use lib.ListN.{length, drop, length-drop}
@@ -13,11 +12,6 @@ use Rattle.access.specs.Held.{heldOf}
 use Rattle.access.proofs.Weighs.{no-bit-left, only-inherited, other-type, named}
 use Rattle.access.proofs.decide.weighs.Statement.{statement}
 use Rattle.access.proofs.decide.weighs.Tie as tie
-use Rattle.access.proofs.decide.weighs.Reads as reads
-use Rattle.access.proofs.decide.weighs.Lts as lts
-use Rattle.access.proofs.decide.has.Reads as has-reads
-use Rattle.access.proofs.decide.type_counts.Reads as type-counts-reads
-use Rattle.access.proofs.held.names.Reads as names-reads
 
 -- the SID ends inside the bytes
 ends : (s : tie.Start) → s .args .e .sid + s .args .e .«sid_len» ≤ length (now (s .args .t))

@@ -2,16 +2,13 @@
 use borrow.Author.Needs.{needs}
 use native.Mathlib.Omega.{arith}
 use mathlib.Core.Path.{_≡_, sym, subst, _∙_}
-use Prim.Native.Nat.{ℕ, _+_, _-_, _<_}
+use Prim.Native.Nat.{ℕ, _+_, _-_}
 use denote.Ref.{now}
 use lib.ListN.{length, drop}
 use Rattle.list.specs.Identity.{wholeSid}
 use Rattle.access.proofs.Holds.{Counted, counted-none, counted-more, counted-bad, counted-many, counted-fine}
 use Rattle.access.proofs.held.held_fault.Statement.{statement}
 use Rattle.access.proofs.held.held_fault.Tie as tie
-use Rattle.access.proofs.held.held_fault.Reads as reads
-use Rattle.access.proofs.held.held_fault.Lts as lts
-use Rattle.list.proofs.sid_in.Reads as sid-in-reads
 
 abbrev Inv-loop : tie.InvT-loop
 Inv-loop held at₀ count₀ at count = Counted held at count

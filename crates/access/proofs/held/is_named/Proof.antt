@@ -6,9 +6,6 @@ use denote.Ref.{now}
 use Rattle.access.proofs.Holds.{other-byte}
 use Rattle.access.proofs.held.is_named.Statement.{statement}
 use Rattle.access.proofs.held.is_named.Tie as tie
-use Rattle.access.proofs.held.is_named.Reads as reads
-use Rattle.access.proofs.held.is_named.Lts as lts
-use Rattle.list.proofs.same_bytes.Reads as same-bytes-reads
 
 sub-if1 : tie.Need-sub-if1
 sub-if1 c = search needs

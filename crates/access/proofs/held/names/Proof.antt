@@ -1,16 +1,13 @@
 -- The loop has found no SID that is the same before `at`. Assumes nothing.
 use borrow.Author.Needs.{needs}
 use native.Mathlib.Omega.{arith}
-use mathlib.Core.Path.{_≡_, sym, refl, _∙_}
+use mathlib.Core.Path.{sym, refl, _∙_}
 use Prim.Native.Nat.{_+_, _-_, _*_}
 use denote.Ref.{now}
 use lib.ListN.{length, getD}
 use Rattle.access.proofs.Holds.{Looks, Next, looks-none, looks-end, looks-next, looks-found, looks-more}
 use Rattle.access.proofs.held.names.Statement.{statement}
 use Rattle.access.proofs.held.names.Tie as tie
-use Rattle.access.proofs.held.names.Reads as reads
-use Rattle.access.proofs.held.names.Lts as lts
-use Rattle.access.proofs.held.is_named.Reads as is-named-reads
 
 abbrev Inv-loop : tie.InvT-loop
 Inv-loop sid held mark at₀ at = Looks sid held at

@@ -1,6 +1,5 @@
 -- The bytes are those of the one placeholder, of the other, or of neither. Assumes nothing.
 use borrow.Author.Needs.{needs}
-use native.Mathlib.Omega.{arith}
 use mathlib.Core.Path.{_≡_, sym, _∙_}
 use denote.Ref.{now}
 use mathlib.Core.Bool.{true, false}
@@ -8,9 +7,6 @@ use Rattle.list.specs.Bytes.{sameBytes}
 use Rattle.list.specs.Identity.{creator, placeholderOf}
 use Rattle.list.proofs.identities.placeholder_of.Statement.{statement}
 use Rattle.list.proofs.identities.placeholder_of.Tie as tie
-use Rattle.list.proofs.identities.placeholder_of.Reads as reads
-use Rattle.list.proofs.identities.placeholder_of.Lts as lts
-use Rattle.list.proofs.numbers.same_bytes.Reads as same-bytes-reads
 
 sub-same-bytes : tie.Need-sub-same-bytes
 sub-same-bytes c = search needs

@@ -9,10 +9,6 @@ use Rattle.list.specs.Bytes.{sameBytes}
 use Rattle.list.proofs.Sids.{same-length, next-differs, next-same}
 use Rattle.list.proofs.numbers.same_bytes.Statement.{statement}
 use Rattle.list.proofs.numbers.same_bytes.Tie as tie
-use Rattle.list.proofs.numbers.same_bytes.Reads as reads
-use Rattle.list.proofs.numbers.same_bytes.Lts as lts
-use Rattle.list.proofs.numbers.same_rest.Reads as same-rest-reads
-use Rattle.list.proofs.numbers.word_at.Reads as word-at-reads
 
 abbrev Inv-loop : tie.InvT-loop
 Inv-loop a b at₀ at = (at ≤ length a) × (length a ≡ length b) × (sameBytes a b ≡ sameBytes (drop at a) (drop at b))

@@ -10,8 +10,6 @@ use Rattle.list.proofs.Sids.{next-differs, next-same}
 use Rattle.list.proofs.Little.{le-one}
 use Rattle.list.proofs.numbers.same_rest.Statement.{statement}
 use Rattle.list.proofs.numbers.same_rest.Tie as tie
-use Rattle.list.proofs.numbers.same_rest.Reads as reads
-use Rattle.list.proofs.numbers.same_rest.Lts as lts
 
 abbrev Inv-loop : tie.InvT-loop
 Inv-loop a b at i₀ i = (i ≤ length a) × (sameBytes (drop at a) (drop at b) ≡ sameBytes (drop i a) (drop i b))
