@@ -11,7 +11,7 @@ unfoldable pub sidsIn : ℕ → List ℕ → List (List ℕ)
 sidsIn zero h = []
 sidsIn (suc n) h = cond (ltb 0 (wholeSid h)) (take (wholeSid h) h ∷ sidsIn n (drop (wholeSid h) h)) []
 
--- all of them, of which there are fewer than bytes
+-- all of them: no more than there are bytes
 unfoldable pub heldOf : List ℕ → List (List ℕ)
 heldOf h = sidsIn (length h) h
 

@@ -4,6 +4,19 @@ use crate::list::{Guid, HEADER_LENGTH, List};
 use crate::random::Random;
 
 pub const MOST_NUMBERS: usize = 15;
+/// Types and object words.
+pub const SHAPES: [(u8, u32); 10] = [
+    (0, 0),
+    (1, 0),
+    (5, 0),
+    (5, 1),
+    (5, 2),
+    (5, 3),
+    (6, 0),
+    (6, 1),
+    (6, 2),
+    (6, 3),
+];
 
 pub fn sid(authority: [u8; 6], numbers: &[u32]) -> Vec<u8> {
     let mut bytes = vec![1, numbers.len() as u8];

@@ -2,21 +2,7 @@
 
 use super::make::{READ, allow, of_entries, of_type};
 use crate::access::Question;
-use crate::cases::build::EntryPlan;
-
-/// Types and words.
-const SHAPES: [(u8, u32); 10] = [
-    (0, 0),
-    (1, 0),
-    (5, 0),
-    (5, 1),
-    (5, 2),
-    (5, 3),
-    (6, 0),
-    (6, 1),
-    (6, 2),
-    (6, 3),
-];
+use crate::cases::build::{EntryPlan, SHAPES};
 
 /// With IO and without it.
 const SOME_FLAGS: [u8; 8] = [0x00, 0x07, 0x10, 0x17, 0x08, 0x0F, 0x18, 0x1F];

@@ -2,25 +2,11 @@
 
 use super::ways::Way;
 use super::{KINDS, all_fitting};
-use crate::cases::build::{EntryPlan, counting_guid, creator_sid, good_list, nt_sid};
+use crate::cases::build::{EntryPlan, SHAPES, counting_guid, creator_sid, good_list, nt_sid};
 use crate::cases::list::identities::near_placeholders;
 use crate::computing::{Request, setting};
 use crate::identity;
 use crate::records::Case;
-
-/// Types and object words.
-const SHAPES: [(u8, u32); 10] = [
-    (0, 0),
-    (1, 0),
-    (5, 0),
-    (5, 1),
-    (5, 2),
-    (5, 3),
-    (6, 0),
-    (6, 1),
-    (6, 2),
-    (6, 3),
-];
 
 pub fn cases() -> Vec<Case> {
     let mut requests = in_every_shape();
