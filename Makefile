@@ -54,11 +54,12 @@ examples: axs
 		$(EMULATED) target/bin/axs <$$script | cmp - $${script%.axs}.out && echo "$$script: as expected" || exit 1; \
 	done
 
-# play_file is handed the document's script, whose text is that of axs
+# play_file is handed the document's script, whose text is that of axs; where a script has the program's name, what it writes is in NAME.c.out
 c_examples: lib
-	@for program in read_list compute_list undo_tree play_script play_file who_may_open; do \
+	@for program in read_list compute_list undo_tree play_script play_file who_may_open full_control; do \
 		$(CC) $(C99) examples/$$program.c -L. -lpipeteasel -o target/$$program || exit 1; \
 		expected=examples/$$program.out; [ $$program != play_file ] || expected=examples/document.out; \
+		[ ! -e examples/$$program.c.out ] || expected=examples/$$program.c.out; \
 		$(EMULATED) target/$$program examples/document.axs >target/$$program.txt && diff target/$$program.txt $$expected || exit 1; \
 		echo "examples/$$program.c: as expected"; \
 	done

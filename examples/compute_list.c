@@ -1,4 +1,5 @@
-/* Document 01's K1: what a container below a folder inherits whose one entry grants its creator owner to read. */
+/* Document 01's K1 under rule 2: what a container below a folder inherits whose one entry grants its creator owner to read. The
+ * generic bit that was granted has joined its mapping and is gone: the masks are 00120089. */
 #include <inttypes.h>
 #include <stdio.h>
 

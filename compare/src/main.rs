@@ -6,6 +6,7 @@ mod compute;
 mod deep;
 mod floors;
 mod list;
+mod mended;
 mod mutate;
 mod program;
 mod repeat;

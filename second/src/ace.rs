@@ -11,6 +11,9 @@ pub const NO_PROPAGATE: u8 = 0x04;
 pub const INHERIT_ONLY: u8 = 0x08;
 pub const INHERITED: u8 = 0x10;
 
+/// The generic bits of a mask: 80000000, 40000000, 20000000 and 10000000.
+pub const GENERIC: u32 = 0xF000_0000;
+
 /// No result of the computation is longer; a list given may have 65,535 bytes.
 pub const LONGEST_LIST: usize = 65_532;
 

@@ -1,6 +1,7 @@
 //! Fresh random computations: most of them good, others spoilt in a part or
 //! in several.
 
+use super::masks::ask_for_generic_bits;
 use super::share::share;
 use crate::mutate::{mutate_identity, mutate_list};
 use second::ace::LONGEST_LIST;
@@ -38,6 +39,9 @@ pub fn case(random: &mut Random) -> Case {
             request
         }
     };
+    if random.chance(1, 2) {
+        ask_for_generic_bits(random, &mut request);
+    }
     if random.chance(1, 3) {
         for _ in 0..1 + random.below(3) {
             spoil(random, &mut request);

@@ -2,6 +2,8 @@
 
 mod generate;
 mod lent;
+mod masks;
+mod opened;
 mod share;
 mod spare;
 
@@ -10,8 +12,10 @@ use std::ops::Range;
 use crate::capi::lending::Lending;
 use crate::capi::{self, WhenEmpty};
 use crate::floors;
+use crate::mended;
 use crate::report::Report;
 use generate::Case as Fresh;
+use opened::Lists;
 use second::computing::{self, Refused, Request};
 use second::hex;
 use second::random::Random;
@@ -21,6 +25,10 @@ use second::records::{Case, encode_all};
 const MARGIN: usize = 16;
 /// Lists that are longer together are told by their lengths.
 const LONGEST_TOLD: usize = 4_000;
+/// How often someone wants to open what was computed by rule 2, where a mask of
+/// it hangs on 10000000 and where none does.
+const OPENED_ONE_IN: usize = 2;
+const OTHERS_ONE_IN: usize = 16;
 
 pub fn compare(cases: usize, seed: u64) -> Report {
     let mut random = Random::new(seed);
@@ -39,9 +47,12 @@ fn compare_one(random: &mut Random, report: &mut Report, fresh: &Fresh) {
 
     let mut our_room = before.clone();
     let outcome = computing::try_compute(request, &mut our_room[inside.clone()]);
+    let mut without_all = None;
     let ours = match outcome {
         Ok(done) => {
             report.add_branch(done.branch.name());
+            let list = &our_room[inside.clone()][..done.answer.length as usize];
+            without_all = masks::count(report, request, done.branch, list);
             done.answer.eight()
         }
         Err(refused) => {
@@ -64,7 +75,12 @@ fn compare_one(random: &mut Random, report: &mut Report, fresh: &Fresh) {
         spare::count(report, request, ours[0]);
     }
     let again = without.map(|without| Asked::apart(random, &without, &their_room, &inside));
-    capi::compute(&lent, &mut their_room[inside], &mut theirs, &lending);
+    capi::compute(
+        &lent,
+        &mut their_room[inside.clone()],
+        &mut theirs,
+        &lending,
+    );
 
     let difference = if theirs != ours {
         Some(format!("{theirs:?}, second {ours:?}"))
@@ -74,6 +90,14 @@ fn compare_one(random: &mut Random, report: &mut Report, fresh: &Fresh) {
         Some("an input was changed".to_string())
     } else if again.is_some_and(|again| again.answer != theirs || again.room != their_room) {
         Some("without spare bytes the library tells otherwise".to_string())
+    } else if ours[4] == 1 && request.rule == mended::RULE {
+        let length = ours[3] as usize;
+        let lists = Lists {
+            theirs: &their_room[inside.clone()][..length],
+            ours: &our_room[inside][..length],
+            without: without_all.as_deref(),
+        };
+        by_rule_2(random, report, request, &lists)
     } else {
         None
     };
@@ -83,6 +107,26 @@ fn compare_one(random: &mut Random, report: &mut Report, fresh: &Fresh) {
         report.add_call(list, ours[0]);
     }
     report.add("compute", ours[0], told);
+}
+
+/// What holds of such a list, and who may open it.
+fn by_rule_2(
+    random: &mut Random,
+    report: &mut Report,
+    request: &Request,
+    lists: &Lists,
+) -> Option<String> {
+    if let Err(left) = mended::check(report, [lists.theirs]) {
+        return Some(left);
+    }
+    let one_in = match lists.without {
+        Some(_) => OPENED_ONE_IN,
+        None => OTHERS_ONE_IN,
+    };
+    if random.chance(1, one_in) {
+        return opened::compare(random, report, request, lists);
+    }
+    None
 }
 
 /// What the library makes of a request in a room that begins as given.

@@ -10,10 +10,10 @@ use second::tree::{
     list_below, play_on,
 };
 
-type Lists = Vec<Option<Vec<u8>>>;
+pub type Lists = Vec<Option<Vec<u8>>>;
 
 /// The number of an object whose list would be too long.
-type TooLongAt = usize;
+pub type TooLongAt = usize;
 
 #[derive(Clone, Default)]
 pub struct Large {
@@ -180,7 +180,7 @@ pub fn fits(found: &Found, changes: &[Change]) -> bool {
 }
 
 /// A parent's number is smaller than its children's, so its list is there.
-fn lists_in_turn(settings: &Settings, objects: &[Object]) -> Result<Lists, TooLongAt> {
+pub fn lists_in_turn(settings: &Settings, objects: &[Object]) -> Result<Lists, TooLongAt> {
     let mut lists = Lists::new();
     for (number, object) in objects.iter().enumerate() {
         let parents = object.parent.and_then(|parent| lists[parent].clone());

@@ -11,7 +11,7 @@ use crate::tree::check::{Both, Ours};
 use crate::tree::generate::{read, room_length};
 use crate::tree::told::Told;
 use generate::{Maker, Profile};
-pub use large::Large;
+pub use large::{Large, lists_in_turn};
 use large::{TooLong, depths};
 use second::cases::tree::palette::Palette;
 use second::random::Random;

@@ -3,10 +3,11 @@
 use super::{lent, spare};
 use crate::capi;
 use crate::deep::Large;
+use crate::mended;
 use crate::report::Report;
 use second::random::Random;
 use second::room::{self, Found, length};
-use second::tree::{self, Call, OUT_BEFORE, Object, Outcome, Player, Tree};
+use second::tree::{self, Call, OUT_BEFORE, Object, Outcome, Part, Player, Tree};
 
 /// Bytes before and after what is lent that nobody may touch.
 const MARGIN: usize = 16;
@@ -33,6 +34,15 @@ impl Ours {
         match self {
             Ours::Played(player) => player.tree(),
             _ => None,
+        }
+    }
+
+    /// Of a tree whose lists were all computed by calls.
+    fn rule(&self) -> Option<u32> {
+        match self {
+            Ours::Played(player) => player.tree().map(|tree| tree.settings().rule),
+            Ours::Large(large) => large.found().map(|found| found.settings.rule),
+            Ours::NoTree | Ours::Found(_) => None,
         }
     }
 
@@ -136,7 +146,29 @@ impl Both {
             return Err("an input was changed".to_string());
         }
         self.check_out(&ours, &out)?;
-        self.check_room(&ours, call, &before)
+        self.check_list(report, call, &ours, inside(&out))?;
+        self.check_room(report, &ours, call, &before)
+    }
+
+    /// One that was read back and computed by rule 2.
+    fn check_list(
+        &self,
+        report: &mut Report,
+        call: &Call,
+        ours: &Outcome,
+        out: &[u8],
+    ) -> Result<(), String> {
+        match (call, ours.result()) {
+            (
+                Call::Read {
+                    part: Part::List, ..
+                },
+                Some(Ok(answer)),
+            ) if answer.present == 1 && self.ours.rule() == Some(mended::RULE) => {
+                mended::check(report, [&out[..answer.length as usize]])
+            }
+            _ => Ok(()),
+        }
     }
 
     fn check_out(&self, ours: &Outcome, out: &[u8]) -> Result<(), String> {
@@ -147,7 +179,13 @@ impl Both {
         same(out, &expected, "out")
     }
 
-    fn check_room(&self, ours: &Outcome, call: &Call, before: &[u8]) -> Result<(), String> {
+    fn check_room(
+        &self,
+        report: &mut Report,
+        ours: &Outcome,
+        call: &Call,
+        before: &[u8],
+    ) -> Result<(), String> {
         let changes = matches!(call, Call::Start { .. } | Call::Change(_) | Call::Undo);
         if ours.is_refused() || !changes {
             return same(&self.lent, before, "room, which is to stay,");
@@ -165,6 +203,10 @@ impl Both {
         )?;
         let room = inside(&self.lent);
         is_found(room, &expected)?;
+        if expected.settings.rule == mended::RULE {
+            // The library's too: the room holds them, all worked out anew.
+            mended::check(report, expected.lists.iter().flatten().map(Vec::as_slice))?;
+        }
         match (call, &self.ours) {
             // Start determines every byte.
             (Call::Start { .. }, _) => {

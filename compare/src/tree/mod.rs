@@ -5,6 +5,7 @@ mod damage;
 pub mod generate;
 mod lent;
 mod made;
+mod masks;
 mod places;
 pub mod spare;
 pub mod told;
@@ -34,6 +35,7 @@ pub fn compare(cases: usize, seed: u64) -> Report {
 fn one(random: &mut Random, report: &mut Report) -> Result<(), String> {
     let palette = Palette::draw(random);
     let palette = roomy_at_times(random, palette);
+    let palette = generic_at_times(random, palette);
     let room = sequence(random, report, &palette)?;
     for _ in 0..random.below(3) {
         let damaged = damage::damaged(random, &room);
@@ -49,6 +51,7 @@ fn one(random: &mut Random, report: &mut Report) -> Result<(), String> {
         let heavy = !large && random.chance(3, 4);
         let palette = Palette::of_weight(random, heavy);
         let palette = roomy_at_times(random, palette);
+        let palette = generic_at_times(random, palette);
         let (found, room) = made::room(random, &palette, large);
         check::is_found(&room, &found)?;
         on_any_room(random, report, &palette, &room)
@@ -61,6 +64,15 @@ fn one(random: &mut Random, report: &mut Report) -> Result<(), String> {
 pub fn roomy_at_times(random: &mut Random, palette: Palette) -> Palette {
     if random.chance(1, 3) {
         palette.with_spare_bytes()
+    } else {
+        palette
+    }
+}
+
+/// In every other case masks ask for generic bits, and mappings bring some in.
+fn generic_at_times(random: &mut Random, palette: Palette) -> Palette {
+    if random.chance(1, 2) {
+        palette.with_generic_bits()
     } else {
         palette
     }
@@ -105,6 +117,8 @@ fn read_back(
     both: &mut Both,
     told: &mut Told,
 ) -> Result<(), String> {
+    let tree = both.ours.tree().expect("a start was done");
+    masks::count(report, tree);
     let objects = both.ours.objects().len() as u32;
     let parts: &[Part] = if random.chance(1, 4) {
         &Part::ALL

@@ -4,12 +4,12 @@ use mathlib.Core.Bool.{Bool, true, false, not, cond, _&&_, _||_, and-false}
 use mathlib.Core.List.{List, [], _∷_, _++_}
 use mathlib.Core.Option.{none, some}
 use mathlib.Core.Logic.{_↔_}
-use Prim.Native.Nat.{ℕ, zero, suc, _*_, _/_, _%_, _^_, _≤_, _<_}
+use Prim.Native.Nat.{ℕ, _^_, _≤_, _<_}
 use native.Mathlib.Omega.{arith}
 use lib.ListN.{length}
 use lib.Dec.{eqb, leb}
-use lib.Bits.{bitOr, and-high, and-le-r, or-add-and, or-shr, or-mod}
-use borrow.Author.Tests.{eqb-false, ne-eqb, leb-true, le-leb, not-true}
+use lib.Bits.{bitOr}
+use borrow.Author.Tests.{eqb-false, leb-true, le-leb, not-true}
 use Rattle.list.specs.Order.{need}
 use Rattle.list.specs.Bytes.{has, among, sameBytes}
 use Rattle.list.specs.Entry.{access, kindOf, maskOf, sidOf}
@@ -18,7 +18,7 @@ use Rattle.list.specs.Good.{Every}
 use Rattle.list.specs.List.{MaybeList, entriesOf, checkOf}
 use Rattle.list.specs.declared.lists.Reading.{Reading}
 use Rattle.list.specs.declared.lists.Reading.the-variants.{Done as Read, Refused as Unread}
-use Rattle.list.proofs.Bits.{has-or}
+use Rattle.list.proofs.Bits.{has-or, generic-or}
 use Rattle.list.proofs.Tests.{both-true, false-or, off}
 use Rattle.list.proofs.Sids.{same-true}
 use Rattle.access.specs.declared.Access.{Access}
@@ -153,6 +153,31 @@ module _ (type : List ℕ) (sids : List (List ℕ)) where
       → opensBy type sids w (xs ++ ys) ≡ opensBy type sids w xs
   order-decides w xs ys s = opens-same type sids sids w (xs ++ ys) xs (λ k l h. first-decides (2 ^ k) xs ys (s k l h))
 
+  -- an entry that counts names a SID that is held
+  counts-held : (e : List ℕ) → entryCounts type sids e ≡ true → among (sidOf e) sids ≡ true
+  unfolding entryCounts
+  counts-held e h =
+      both-true (among (sidOf e) sids) (typeCounts type e) (both-true (not (inheritOnly e)) (among (sidOf e) sids && typeCounts type e) h .1) .0
+
+  allowed-granted : (bit : ℕ) (xs ys : List (List ℕ)) (e : List ℕ) → Every (λ x. among (sidOf x) sids ≡ true → isAllow (kindOf x) ≡ true) xs
+      → (entryCounts type sids e && has bit (maskOf e)) ≡ true → isAllow (kindOf e) ≡ true → granted type sids bit (xs ++ (e ∷ ys)) ≡ true
+  unfolding granted
+  allowed-granted bit [] ys e n c a = granted-here type sids bit e ys c ∙ a
+  allowed-granted bit (x ∷ xs) ys e n c a = by (entryCounts type sids x && has bit (maskOf x)) refl (allowed-granted bit xs ys e (n .1) c a)
+    where
+      by : (s : Bool) → (entryCounts type sids x && has bit (maskOf x)) ≡ s → granted type sids bit (xs ++ (e ∷ ys)) ≡ true
+          → granted type sids bit (x ∷ (xs ++ (e ∷ ys))) ≡ true
+      by true s on =
+          granted-here type sids bit x (xs ++ (e ∷ ys)) s ∙ n .0 (counts-held x (both-true (entryCounts type sids x) (has bit (maskOf x)) s .0))
+      by false s on = granted-on type sids bit x (xs ++ (e ∷ ys)) s ∙ on
+
+  -- an allow entry that counts lets its bits through, where nothing before it denies a SID that is held
+  pub allowed-opens : (w : ℕ) (xs ys : List (List ℕ)) (e : List ℕ) → Every (λ x. among (sidOf x) sids ≡ true → isAllow (kindOf x) ≡ true) xs
+      → entryCounts type sids e ≡ true → isAllow (kindOf e) ≡ true → ((k : ℕ) → k < 32 → has (2 ^ k) w ≡ true → has (2 ^ k) (maskOf e) ≡ true)
+      → opensBy type sids w (xs ++ (e ∷ ys)) ≡ true
+  allowed-opens w xs ys e n c a has-them =
+      opens-all type sids w (xs ++ (e ∷ ys)) (λ k l h. allowed-granted (2 ^ k) xs ys e n (both-hold c (has-them k l h)) a)
+
 -- ---- entries that don't count
 
 module _ (type : List ℕ) (sids : List (List ℕ)) (e : List ℕ) where
@@ -261,28 +286,6 @@ yes-exactly q = (to, from)
         (yes-need (toEnd (q .held)) 6 rest₂ (m .to-end)
         (yes-need (leb (length (heldOf (q .held))) 32) 7 rest₃ (le-leb (length (heldOf (q .held))) 32 (m .few))
         (ap yesOrNo (m .opened)))))
-
--- the four generic bits as a number below 16
-abbrev generic : ℕ → ℕ
-generic n = n / 2 ^ 28 % 2 ^ 4
-
-generic-is : (n : ℕ) → has 0xF0000000 n ≡ not (eqb (generic n) 0)
-generic-is n = ap (λ (x : ℕ). not (eqb x 0)) (and-high n 4 28) ∙ by (generic n)
-  where
-    by : (x : ℕ) → not (eqb (x * 2 ^ 28) 0) ≡ not (eqb x 0)
-    by zero = refl
-    by (suc x) = rw (ne-eqb (suc x * 2 ^ 28) 0 (λ e. omega arith), ne-eqb (suc x) 0 (λ e. omega arith))
-
-generic-or : (a b : ℕ) → has 0xF0000000 (bitOr a b) ≡ (has 0xF0000000 a || has 0xF0000000 b)
-generic-or a b =
-    generic-is (bitOr a b)
-    ∙ ap (λ (x : ℕ). not (eqb x 0)) (ap (λ (x : ℕ). x % 2 ^ 4) (or-shr a b 28) ∙ or-mod (a / 2 ^ 28) (b / 2 ^ 28) 4)
-    ∙ by (generic a) (generic b)
-    ∙ sym (ap₂ (λ (x y : Bool). x || y) (generic-is a) (generic-is b))
-  where
-    by : (x y : ℕ) → not (eqb (bitOr x y) 0) ≡ (not (eqb x 0) || not (eqb y 0))
-    by zero y = refl
-    by (suc x) y = rw (ne-eqb (bitOr (suc x) y) 0 (λ e. omega (arith, or-add-and (suc x) y, and-le-r (suc x) y)), ne-eqb (suc x) 0 (λ e. omega arith))
 
 opens-or : (q : Question) (a b : ℕ) (list : MaybeList) → opens (asks q (bitOr a b)) list ≡ (opens (asks q a) list && opens (asks q b) list)
 unfolding opens

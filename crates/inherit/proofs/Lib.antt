@@ -2,11 +2,13 @@ pub mod Worked
 pub mod Types
 pub mod Lying
 pub mod Flags
+pub mod Masks
 pub mod Emits
 pub mod One
 pub mod Loops
 pub mod Planned
 pub mod Results
+pub mod Copied
 pub mod Gather
 pub mod Search
 pub mod Fills
@@ -14,5 +16,7 @@ pub mod Sources
 pub mod Refusals
 pub mod Runs
 pub mod Theorems
+pub mod Mended
+pub mod Remapped
 pub mod Spare
 pub mod Determined

@@ -12,7 +12,7 @@ use Rattle.list.proofs.Remade.{bounds, kind-entry}
 use Rattle.inherit.specs.declared.copies.Pass.{Pass}
 use Rattle.inherit.specs.declared.passes.Measure.{Measure}
 use Rattle.inherit.specs.Asked.{Given}
-use Rattle.inherit.specs.Last.{mapped}
+use Rattle.inherit.specs.Last.{lastMask}
 use Rattle.inherit.specs.Compute.{anyObject}
 use Rattle.inherit.specs.Inner.Emit.{takesBy, flagsBy, Lies, putIn, copyOf, emitOf, measureOf}
 use Rattle.inherit.proofs.Lying.{copy-size}
@@ -37,7 +37,7 @@ copyParts g p t e =
     record {
       kind = e .kind;
       flags = flagsBy p (e .flags);
-      mask = mapped (g .mapping) (e .mask);
+      mask = lastMask (g .rule) (g .mapping) (e .mask);
       middle = middleOf t;
       sid = putIn t (g .owner) (g .group);
       tail = tailOf t;

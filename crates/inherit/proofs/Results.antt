@@ -1,27 +1,28 @@
 -- What a result is: whole entries under the revision that they ask for, and no placeholder among them.
-use mathlib.Core.Path.{_≡_, refl}
+use mathlib.Core.Path.{_≡_, refl, ap, _∙_}
 use mathlib.Core.Bool.{Bool, true, false, cond, _||_}
 use mathlib.Core.List.{List, [], _∷_, _++_}
-use Prim.Native.Nat.{ℕ, _<_}
+use Prim.Native.Nat.{ℕ, _^_, _<_}
 use native.Mathlib.Omega.{arith}
 use lib.ListN.{length}
 use lib.Dec.{eqb}
 use borrow.Author.Tests.{eqb-false}
 use Rattle.list.specs.Identity.{isSid, placeholderOf}
-use Rattle.list.specs.Entry.{access, objectKind, kindOf, flagsOf, maskOf, sidOf}
+use Rattle.list.specs.Entry.{access, flagsOk, objectKind, kindOf, flagsOf, maskOf, wordOf, sidOf}
 use Rattle.list.specs.Good.{Whole, Every}
 use Rattle.list.proofs.Sids.{OneSid, one-sid}
-use Rattle.list.proofs.Remade.{remade-whole, remade-sid}
+use Rattle.list.proofs.Remade.{remade-kind, remade-flags, remade-mask, remade-word, remade-sid, remade-again, remade-whole}
 use Rattle.list.proofs.Revisions.{flags-le, flags-ok, whole-four, whole-plain, one-own, no-placeholder, every-append, every-cond, every-to}
 use Rattle.inherit.specs.declared.branch.Plan.{Plan}
 use Rattle.inherit.specs.declared.copies.Pass.{Pass}
 use Rattle.inherit.specs.declared.copies.Pass.the-variants.{First, Second, Own, All}
 use Rattle.inherit.specs.Asked.{Given}
-use Rattle.inherit.specs.Last.{inPlace, mapped}
+use Rattle.inherit.specs.Last.{inPlace, mends, mended, lastMask, resolved}
 use Rattle.inherit.specs.Compute.{anyObject, revFor}
 use Rattle.inherit.specs.Inner.Emit.{takesBy, flagsBy, copyOf, emitOf, emitAll}
 use Rattle.inherit.specs.Inner.Plan.{planned}
 use Rattle.inherit.proofs.Flags.{by-le}
+use Rattle.inherit.proofs.Masks.{mended-low, last-mended, last-same}
 use Rattle.inherit.proofs.Emits.{emit-yes, emit-no}
 
 -- what stands in a SID's place is one SID, and no placeholder
@@ -32,6 +33,11 @@ cond-one false x y h k = k
 in-place-one : (k : ℕ) (sid owner group : List ℕ) → OneSid sid → OneSid owner → OneSid group → OneSid (inPlace k sid owner group)
 unfolding inPlace
 in-place-one k sid owner group s o g = cond-one (eqb k 1) owner _ o (cond-one (eqb k 2) group sid g s)
+
+-- what is no placeholder stays
+in-place-own : (s owner group : List ℕ) → placeholderOf s ≡ 0 → inPlace (placeholderOf s) s owner group ≡ s
+unfolding inPlace
+in-place-own s owner group h = rw h
 
 pub in-place-ordinary : (s owner group : List ℕ) → placeholderOf owner ≡ 0 → placeholderOf group ≡ 0
     → placeholderOf (inPlace (placeholderOf s) s owner group) ≡ 0
@@ -44,25 +50,69 @@ in-place-ordinary s owner group o g = by (eqb (placeholderOf s) 1) (eqb (placeho
     by false false p q = no-placeholder s (eqb-false _ 1 p) (eqb-false _ 2 q)
 
 -- a whole entry's copy
+module _ (g : Given) (o : isSid (g .owner) ≡ true) (r : isSid (g .group) ≡ true) (rev : ℕ) (e : List ℕ) (w : Whole access rev e) (flags : ℕ)
+    (ok : flagsOk access flags ≡ true) where
+  abbrev put : List ℕ
+  put = inPlace (placeholderOf (sidOf e)) (sidOf e) (g .owner) (g .group)
+
+  abbrev mask : ℕ
+  mask = lastMask (g .rule) (g .mapping) (maskOf e)
+
+  one : OneSid put
+  one = in-place-one (placeholderOf (sidOf e)) (sidOf e) (g .owner) (g .group) (one-own access rev e (w .sound)) (one-sid (g .owner) o) (one-sid (g .group) r)
+
+  pub copy-whole : Whole access rev (copyOf g flags e)
+  unfolding copyOf
+  copy-whole = remade-whole access rev e w flags mask ok put one
+
+  pub copy-kind : kindOf (copyOf g flags e) ≡ kindOf e
+  unfolding copyOf
+  copy-kind = remade-kind access rev e w flags mask ok put one
+
+  pub copy-flags : flagsOf (copyOf g flags e) ≡ flags
+  unfolding copyOf
+  copy-flags = remade-flags access rev e w flags mask ok put one
+
+  pub copy-word : wordOf (copyOf g flags e) ≡ wordOf e
+  unfolding copyOf
+  copy-word = remade-word access rev e w flags mask ok put one
+
+  pub copy-sid : sidOf (copyOf g flags e) ≡ put
+  unfolding copyOf
+  copy-sid = remade-sid access rev e w flags mask ok put one
+
+  -- under a rule that mends
+  module _ (m : mends (g .rule) ≡ true) where
+    mask-low : mask < 2 ^ 28
+    mask-low = rw (last-mended (g .rule) (g .mapping) (maskOf e) m) (mended-low (g .mapping) (maskOf e))
+
+    mask-is : maskOf (copyOf g flags e) ≡ mask
+    unfolding copyOf
+    mask-is = remade-mask access rev e w flags mask ok put one (omega (arith, mask-low))
+
+    pub copy-mask : maskOf (copyOf g flags e) ≡ mended (g .mapping) (maskOf e)
+    copy-mask = mask-is ∙ last-mended (g .rule) (g .mapping) (maskOf e) m
+
+    pub copy-low : maskOf (copyOf g flags e) < 2 ^ 28
+    copy-low = rw mask-is mask-low
+
+    -- another last step, under any rule, leaves the copy as it is
+    pub copy-again : placeholderOf (g .owner) ≡ 0 → placeholderOf (g .group) ≡ 0 → (h : Given) → resolved h (copyOf g flags e) ≡ copyOf g flags e
+    unfolding resolved copyOf
+    copy-again po pr h =
+        let x = copyOf g flags e in
+        let s : inPlace (placeholderOf (sidOf x)) (sidOf x) (h .owner) (h .group) ≡ put =
+        in-place-own (sidOf x) (h .owner) (h .group) (ap placeholderOf copy-sid ∙ in-place-ordinary (sidOf e) (g .owner) (g .group) po pr) ∙ copy-sid in
+        let k : lastMask (h .rule) (h .mapping) (maskOf x) ≡ mask = last-same (h .mapping) (maskOf x) copy-low (h .rule) ∙ mask-is in
+        rw (s, k, copy-flags) (remade-again access rev e w flags mask ok put one)
+
+-- what an entry gives in a pass
 module _ (g : Given) (o : isSid (g .owner) ≡ true) (r : isSid (g .group) ≡ true) (p : Pass) (rev : ℕ) (e : List ℕ) (w : Whole access rev e) where
   two : 1 < length e
   two = omega (arith, w .sound .four)
 
-  one : OneSid (inPlace (placeholderOf (sidOf e)) (sidOf e) (g .owner) (g .group))
-  one = in-place-one (placeholderOf (sidOf e)) (sidOf e) (g .owner) (g .group) (one-own access rev e (w .sound)) (one-sid (g .owner) o) (one-sid (g .group) r)
-
-  copy-whole : Whole access rev (copyOf g (flagsBy p (flagsOf e)) e)
-  unfolding copyOf
-  copy-whole =
-      remade-whole access rev e w (flagsBy p (flagsOf e)) (mapped (g .mapping) (maskOf e))
-      (flags-ok _ (by-le p (flagsOf e) (flags-le (flagsOf e) (w .sound .flags)))) _ one
-
-  copy-sid : sidOf (copyOf g (flagsBy p (flagsOf e)) e)
-      ≡ inPlace (placeholderOf (sidOf e)) (sidOf e) (g .owner) (g .group)
-  unfolding copyOf
-  copy-sid =
-      remade-sid access rev e w (flagsBy p (flagsOf e)) (mapped (g .mapping) (maskOf e))
-      (flags-ok _ (by-le p (flagsOf e) (flags-le (flagsOf e) (w .sound .flags)))) _ one
+  known : flagsOk access (flagsBy p (flagsOf e)) ≡ true
+  known = flags-ok _ (by-le p (flagsOf e) (flags-le (flagsOf e) (w .sound .flags)))
 
   -- what holds of the copy holds of what the entry gives
   every-given : (P : List ℕ → Type 0) → P (copyOf g (flagsBy p (flagsOf e)) e) → Every P (emitOf g p e)
@@ -74,11 +124,21 @@ module _ (g : Given) (o : isSid (g .owner) ≡ true) (r : isSid (g .group) ≡ t
 
   -- a whole entry gives whole entries
   pub emit-whole : Every (Whole access rev) (emitOf g p e)
-  emit-whole = every-given (Whole access rev) copy-whole
+  emit-whole = every-given (Whole access rev) (copy-whole g o r rev e w (flagsBy p (flagsOf e)) known)
 
   -- and none that names a placeholder
   pub emit-ordinary : placeholderOf (g .owner) ≡ 0 → placeholderOf (g .group) ≡ 0 → Every (λ x. placeholderOf (sidOf x) ≡ 0) (emitOf g p e)
-  emit-ordinary po pr = every-given _ (rw copy-sid (in-place-ordinary (sidOf e) (g .owner) (g .group) po pr))
+  emit-ordinary po pr =
+      every-given _ (rw (copy-sid g o r rev e w (flagsBy p (flagsOf e)) known) (in-place-ordinary (sidOf e) (g .owner) (g .group) po pr))
+
+  -- under a rule that mends, each with a mask below the generic bits
+  pub emit-low : mends (g .rule) ≡ true → Every (λ x. maskOf x < 2 ^ 28) (emitOf g p e)
+  emit-low m = every-given _ (copy-low g o r rev e w (flagsBy p (flagsOf e)) known m)
+
+  -- that no other last step changes
+  pub emit-again : mends (g .rule) ≡ true → placeholderOf (g .owner) ≡ 0 → placeholderOf (g .group) ≡ 0
+      → Every (λ x. (h : Given) → resolved h x ≡ x) (emitOf g p e)
+  emit-again m po pr = every-given _ (copy-again g o r rev e w (flagsBy p (flagsOf e)) known m po pr)
 
 -- what each entry gives, a pass gives, and a plan
 module _ (g : Given) (P : List ℕ → Type 0) where
@@ -131,13 +191,20 @@ module _ (g : Given) (o : isSid (g .owner) ≡ true) (r : isSid (g .group) ≡ t
       every-planned g (Whole access 4)
       (λ p rev e w. every-to (Whole access rev) (Whole access 4) (whole-four access rev) (emitOf g p e) (emit-whole g o r p rev e w))
 
-  pub planned-whole : (q : Plan) (ps cs ds : List (List ℕ)) (rp rc rd : ℕ)
-      → Every (Whole access rp) ps → Every (Whole access rc) cs → Every (Whole access rd) ds
-      → Every (Whole access (revFor (planned g q ps cs ds))) (planned g q ps cs ds)
-  planned-whole q ps cs ds rp rc rd wp wc wd = rev-whole (planned g q ps cs ds) (planned-four q ps cs ds rp rc rd wp wc wd)
-
   module _ (po : placeholderOf (g .owner) ≡ 0) (pr : placeholderOf (g .group) ≡ 0) where
     pub planned-ordinary : (q : Plan) (ps cs ds : List (List ℕ)) (rp rc rd : ℕ)
         → Every (Whole access rp) ps → Every (Whole access rc) cs → Every (Whole access rd) ds
         → Every (λ x. placeholderOf (sidOf x) ≡ 0) (planned g q ps cs ds)
     planned-ordinary = every-planned g _ (λ p rev e w. emit-ordinary g o r p rev e w po pr)
+
+  module _ (m : mends (g .rule) ≡ true) where
+    pub planned-low : (q : Plan) (ps cs ds : List (List ℕ)) (rp rc rd : ℕ)
+        → Every (Whole access rp) ps → Every (Whole access rc) cs → Every (Whole access rd) ds
+        → Every (λ x. maskOf x < 2 ^ 28) (planned g q ps cs ds)
+    planned-low = every-planned g _ (λ p rev e w. emit-low g o r p rev e w m)
+
+    pub planned-again : placeholderOf (g .owner) ≡ 0 → placeholderOf (g .group) ≡ 0
+        → (q : Plan) (ps cs ds : List (List ℕ)) (rp rc rd : ℕ)
+        → Every (Whole access rp) ps → Every (Whole access rc) cs → Every (Whole access rd) ds
+        → Every (λ x. (h : Given) → resolved h x ≡ x) (planned g q ps cs ds)
+    planned-again po pr = every-planned g _ (λ p rev e w. emit-again g o r p rev e w m po pr)

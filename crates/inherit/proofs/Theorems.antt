@@ -1,6 +1,6 @@
 -- What demand 2 asks of every result, for any arguments: a list that was computed reads as done, with the count it says, and names no placeholder;
 -- on good arguments the only refusal left is 8; and what a parent without inheritable entries gives.
-use mathlib.Core.Path.{_≡_, refl, sym, ap, ap₂, subst, _∙_}
+use mathlib.Core.Path.{_≡_, refl, sym, ap, subst, _∙_}
 use mathlib.Core.Bool.{Bool, true, false, cond}
 use mathlib.Core.List.{List, []}
 use mathlib.Core.Logic.{_⊎_, inl, inr}
@@ -10,14 +10,14 @@ use native.Mathlib.Omega.{arith}
 use lib.ListN.{length}
 use lib.Dec.{leb}
 use borrow.Author.Tests.{leb-true}
-use Rattle.list.specs.Identity.{placeholderOf}
+use Rattle.list.specs.Identity.{isSid, placeholderOf}
 use Rattle.list.specs.Entry.{access, sidOf}
 use Rattle.list.specs.List.{entriesOf, render, checkOf, MaybeList}
 use Rattle.list.specs.Good.{Whole, Listed, Every}
 use Rattle.list.specs.declared.lists.Reading.the-variants.{Done}
 use Rattle.list.proofs.Tests.{both-true, true-or, eq-or}
 use Rattle.list.proofs.Told.{reads}
-use Rattle.list.proofs.Parts.{rendered, length-render}
+use Rattle.list.proofs.Parts.{Rendered, rendered, length-render}
 use Rattle.list.proofs.Revisions.{rev-known}
 use Rattle.list.specs.Answer.{Values, done, refused}
 use Rattle.inherit.specs.Asked.{Asked, givenIn, entriesIf, typesOk}
@@ -30,7 +30,7 @@ use Rattle.inherit.specs.Inner.Source.{sourceBy, sourceOf}
 use Rattle.inherit.proofs.Sources.{wholes-of}
 use Rattle.inherit.proofs.Refusals.{bad-rule, bad-parent, bad-creator, bad-default, bad-owner, bad-group, bad-types, all-good}
 use Rattle.inherit.proofs.Planned.{planFor, plan-is}
-use Rattle.inherit.proofs.Results.{planned-whole, planned-ordinary}
+use Rattle.inherit.proofs.Results.{rev-whole, planned-four, planned-ordinary}
 use Rattle.inherit.proofs.Runs.{one-sid-of}
 
 -- every test but the room's was passed
@@ -110,6 +110,62 @@ by-plan : (b : Bool) (xs es : List (List ℕ)) (j k : ℕ) → cond b absent (ho
 by-plan true xs es j k h = let z : _≡_ {A = ℕ} 0 1 = cc in absurd (omega arith)
 by-plan false xs es j k h = cc
 
+-- the entries of a computed list: what the plan gives of whole entries
+pub record Made (a : Asked) (room : ℕ) : Type 0 where
+  pub passed : Passed a
+  pub told : Told room (resultOf access a) (computeOf a room)
+  pub plan : told .entries ≡ planned (givenIn a) (planFor a) (entriesIf (a .parent)) (entriesIf (a .creator)) (entriesIf (a .default))
+  pub owner : (isSid (a .owner) ≡ true) × (placeholderOf (a .owner) ≡ 0)
+  pub group : (isSid (a .group) ≡ true) × (placeholderOf (a .group) ≡ 0)
+
+pub made : (a : Asked) (room : ℕ) → computeOf a room .present ≡ 1 → Made a room
+unfolding resultBy
+made a room h =
+    let v = passed a room h in
+    let t = told-present a room h in
+    let q = planFor a in
+    record {
+      passed = v;
+      told = t;
+      plan =
+          by-plan (q .absent) _ (t .entries) (q .control) (t .control)
+          (sym (plan-is a _ _ (wholes-of (a .parent) (v .parent)) (wholes-of (a .creator) (v .creator))) ∙ t .is);
+      owner = one-sid-of (a .owner) (v .owner);
+      group = one-sid-of (a .group) (v .group);
+    }
+
+module _ (a : Asked) (room : ℕ) (m : Made a room) where
+  abbrev made-es : List (List ℕ)
+  made-es = m .told .entries
+
+  -- what holds of all that a plan gives of whole entries holds of them
+  made-every : (P : List ℕ → Type 0)
+      → ((ps cs ds : List (List ℕ)) (rp rc rd : ℕ) → Every (Whole access rp) ps → Every (Whole access rc) cs → Every (Whole access rd) ds
+      → Every P (planned (givenIn a) (planFor a) ps cs ds))
+      → Every P made-es
+  made-every P f =
+      let v = m .passed in
+      subst (Every P) (sym (m .plan))
+      (f _ _ _ _ _ _ (wholes-of (a .parent) (v .parent)) (wholes-of (a .creator) (v .creator)) (wholes-of (a .default) (v .default)))
+
+  made-whole : Every (Whole access (revFor made-es)) made-es
+  made-whole = rev-whole made-es (made-every (Whole access 4) (planned-four (givenIn a) (m .owner .0) (m .group .0) (planFor a)))
+
+  made-list : Rendered access (revFor made-es) made-es
+  made-list = rendered access (revFor made-es) made-es (rev-known (anyObject made-es)) made-whole (omega (arith, m .told .most))
+
+  -- they are the entries of the result's bytes
+  pub made-entries : entriesOf (bytesFor (resultOf access a)) ≡ made-es
+  unfolding bytesFor
+  made-entries = ap (λ (r : Result). entriesOf (bytesFor r)) (m .told .is) ∙ made-list .entries
+
+-- what holds of all that the plan gives of whole entries holds of a computed list's entries
+pub computed-every : (a : Asked) (room : ℕ) → (h : computeOf a room .present ≡ 1) (P : List ℕ → Type 0)
+    → ((ps cs ds : List (List ℕ)) (rp rc rd : ℕ) → Every (Whole access rp) ps → Every (Whole access rc) cs → Every (Whole access rd) ds
+    → Every P (planned (givenIn a) (planFor a) ps cs ds))
+    → Every P (entriesOf (bytesFor (resultOf access a)))
+computed-every a room h P f = let m = made a room h in subst (Every P) (sym (made-entries a room m)) (made-every a room m P f)
+
 -- a computed list: it reads as done, with the length and the count that the answer says, its entries end at its length, and none of them names a placeholder
 pub record Computes (bytes : List ℕ) (l n : ℕ) : Type 0 where
   pub listed : Listed access bytes n
@@ -118,35 +174,22 @@ pub record Computes (bytes : List ℕ) (l n : ℕ) : Type 0 where
 
 pub computes : (a : Asked) (room : ℕ) → computeOf a room .present ≡ 1
     → Computes (bytesFor (resultOf access a)) (computeOf a room .length) (computeOf a room .count)
-unfolding bytesFor resultBy
+unfolding bytesFor
 computes a room h =
-    let g = givenIn a in
-    let v = passed a room h in
-    let t = told-present a room h in
+    let m = made a room h in
+    let t = m .told in
+    let l = made-list a room m in
     let size = ap (λ (x : Values). x .length) (t .values) in
     let count = ap (λ (x : Values). x .count) (t .values) in
-    let wp = wholes-of (a .parent) (v .parent) in
-    let wc = wholes-of (a .creator) (v .creator) in
-    let wd = wholes-of (a .default) (v .default) in
-    let q = planFor a in
-    let es = t .entries in
-    let e : es ≡ planned g q (entriesIf (a .parent)) (entriesIf (a .creator)) (entriesIf (a .default)) =
-    by-plan (q .absent) _ es (q .control) (t .control) (sym (plan-is a _ _ wp wc) ∙ t .is) in
-    let o = one-sid-of (a .owner) (v .owner) in
-    let r = one-sid-of (a .group) (v .group) in
-    let ws : Every (Whole access (revFor es)) es =
-    subst (λ (x : List (List ℕ)). Every (Whole access (revFor x)) x) (sym e)
-    (planned-whole g (o .0) (r .0) q (entriesIf (a .parent)) (entriesIf (a .creator)) (entriesIf (a .default)) _ _ _ wp wc wd) in
-    let ps : Every (λ x. placeholderOf (sidOf x) ≡ 0) es =
-    subst (Every (λ x. placeholderOf (sidOf x) ≡ 0)) (sym e)
-    (planned-ordinary g (o .0) (r .0) (o .1) (r .1) q (entriesIf (a .parent)) (entriesIf (a .creator)) (entriesIf (a .default)) _ _ _ wp wc wd) in
-    let m = rendered access (revFor es) es (rev-known (anyObject es)) ws (omega (arith, t .most)) in
-    subst (λ (x : Result). Computes (bytesFor x) (computeOf a room .length) (computeOf a room .count)) (sym (t .is))
-    (record {
-      listed = subst (Listed access (render (revFor es) es)) (sym count) (m .listed);
-      done = m .done ∙ ap₂ (λ (x y : ℕ). Done x y x) (sym size) (sym count);
-      ordinary-sids = subst (Every (λ x. placeholderOf (sidOf x) ≡ 0)) (sym (m .entries)) ps;
-    })
+    let named =
+    computed-every a room h (λ x. placeholderOf (sidOf x) ≡ 0)
+    (planned-ordinary (givenIn a) (m .owner .0) (m .group .0) (m .owner .1) (m .group .1) (planFor a)) in
+    let bytes : bytesFor (resultOf access a) ≡ render (revFor (t .entries)) (t .entries) = ap bytesFor (t .is) in
+    record {
+      listed = rw (bytes, count) (l .listed);
+      done = rw (bytes, size, count) (l .done);
+      ordinary-sids = named;
+    }
 
 -- good arguments, that is a known rule, lists that read as done where they are present, ordinary identities and object types that are GUIDs: 8 is left
 pub only-room : (a : Asked) (room : ℕ) → Passed a → (computeOf a room .number ≡ 0) ⊎ (computeOf a room ≡ refused 8 0 0)

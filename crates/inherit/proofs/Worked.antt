@@ -15,7 +15,7 @@ use Rattle.inherit.specs.declared.Mapping.{Mapping}
 use Rattle.inherit.specs.declared.Computed.the-variants.{Present, Absent, Refused}
 use Rattle.inherit.specs.Asked.{Asked, entriesIf, typesOk, typesOf}
 use Rattle.inherit.specs.Copies.{anyHeritable, typeApplies, pass, keptFlags, takesFirst, firstPart, takesSecond, secondPart, fromParent, ownEntries, fromCreator}
-use Rattle.inherit.specs.Last.{inPlace, mapped, resolved, lastOf, lastStep}
+use Rattle.inherit.specs.Last.{inPlace, mapped, mends, mended, lastMask, resolved, lastOf, lastStep}
 use Rattle.inherit.specs.Branch.{holds, inheritedBit, withCreator, fromDefault, branch, resultOf}
 use Rattle.inherit.specs.Compute.{anyObject, withRoom, onReading, readable, ruleOk, computeOf, bytesFor, written, outOf, askedBy, computedValues, isRefusal}
 
@@ -30,9 +30,12 @@ mapping = record { read = 0x00120089; write = 0x00120116; execute = 0x001200A0; 
 abbrev pub parentWith : ℕ → List ℕ
 parentWith flags = 0x02 ∷ 0 ∷ 0x1C ∷ 0 ∷ 0x01 ∷ 0 ∷ 0 ∷ 0 ∷ 0x00 ∷ flags ∷ 0x14 ∷ 0 ∷ 0 ∷ 0 ∷ 0 ∷ 0x80 ∷ creator 0
 
--- what it becomes
+-- what it becomes: mask 80120089 under rule 1, which leaves the generic bit, 00120089 under rule 2
+abbrev became : ℕ → ℕ → List ℕ
+became top flags = 0x00 ∷ flags ∷ 0x14 ∷ 0 ∷ 0x89 ∷ 0 ∷ 0x12 ∷ top ∷ system
+
 abbrev pub inherited : ℕ → List ℕ
-inherited flags = 0x00 ∷ flags ∷ 0x14 ∷ 0 ∷ 0x89 ∷ 0 ∷ 0x12 ∷ 0x80 ∷ system
+inherited flags = became 0x00 flags
 
 -- allow, flags 0, mask 1, S-1-5-18
 abbrev plain : List ℕ
@@ -73,30 +76,30 @@ askedIn k =
     }
 
 -- K1's list, and the list of one plain entry
-abbrev pub K1-list : List ℕ
-K1-list = listed 0x30 2 (inherited 0x10 ∷ inherited 0x1B ∷ [])
+abbrev K1-list : ℕ → List ℕ
+K1-list top = listed 0x30 2 (became top 0x10 ∷ became top 0x1B ∷ [])
 
 abbrev pub plain-list : List ℕ
 plain-list = listed 0x1C 1 (plain ∷ [])
 
--- those that hold under either rule, auto inherit or not, with no creator: a parent's flags, container, protected, owner, room; and what is wanted
+-- those for either rule, auto inherit or not, with no creator: a parent's flags, container, protected, owner, room; and what is wanted
 without : ℕ → Bool → ℕ → Bool → Bool → List ℕ → ℕ → Values → List ℕ → Row
 without rule auto flags container protected owner room answer bytes =
     record { rule = rule; parent = parentWith flags; creator = none; container = container; auto = auto; protected = protected; owner = owner; room = room; answer = answer; bytes = bytes }
 
-either : ℕ → Bool → List Row
-either rule auto =
+either : ℕ → ℕ → Bool → List Row
+either rule top auto =
     -- K1 container; K2 not a container
-    without rule auto 0x03 true false system 48 (done 48 1 2 0) K1-list
-    ∷ without rule auto 0x03 false false system 28 (done 28 1 1 0) (listed 0x1C 1 (inherited 0x10 ∷ []))
+    without rule auto 0x03 true false system 48 (done 48 1 2 0) (K1-list top)
+    ∷ without rule auto 0x03 false false system 28 (done 28 1 1 0) (listed 0x1C 1 (became top 0x10 ∷ []))
     -- K3 parent flags 07; K4 parent flags 01; K5 parent flags 0B
-    ∷ without rule auto 0x07 true false system 28 (done 28 1 1 0) (listed 0x1C 1 (inherited 0x10 ∷ []))
-    ∷ without rule auto 0x01 true false system 28 (done 28 1 1 0) (listed 0x1C 1 (inherited 0x19 ∷ []))
-    ∷ without rule auto 0x0B true false system 48 (done 48 1 2 0) K1-list
+    ∷ without rule auto 0x07 true false system 28 (done 28 1 1 0) (listed 0x1C 1 (became top 0x10 ∷ []))
+    ∷ without rule auto 0x01 true false system 28 (done 28 1 1 0) (listed 0x1C 1 (became top 0x19 ∷ []))
+    ∷ without rule auto 0x0B true false system 48 (done 48 1 2 0) (K1-list top)
     -- K6 parent without inheritable entries
     ∷ without rule auto 0x00 true false system 48 (done 0 0 0 0) []
     -- K10 protected
-    ∷ without rule auto 0x03 true true system 48 (done 48 1 2 0) K1-list
+    ∷ without rule auto 0x03 true true system 48 (done 48 1 2 0) (K1-list top)
     -- K11 owner S-1-3-0; K12 K1 with room 47
     ∷ without rule auto 0x03 true false (creator 0) 48 (refused 6 0 0) []
     ∷ without rule auto 0x03 true false system 47 (refused 8 0 0) []
@@ -116,7 +119,8 @@ table =
     ∷ with-plain 2 false true 28 (done 28 1 1 0) plain-list
     -- K9 not protected, auto inherit: that entry, then K1's two
     ∷ with-plain 2 true false 68 (done 68 1 3 0x0400) (listed 0x44 3 (plain ∷ inherited 0x10 ∷ inherited 0x1B ∷ []))
-    ∷ (either 1 true ++ (either 1 false ++ (either 2 true ++ either 2 false)))
+    -- and those for either rule, with the mask's highest byte that the rule leaves
+    ∷ (either 1 0x80 true ++ (either 1 0x80 false ++ (either 2 0x00 true ++ either 2 0x00 false)))
 
 -- the answer, and a buffer of as many zeros as there is room
 pub record Outcome : Type 0 where
@@ -131,21 +135,28 @@ wanted k = record { answer = k .answer; out = k .bytes ++ replicate (k .room - l
 
 pub worked : map computed table ≡ map wanted table
 unfolding table either without with-plain askedIn computed wanted flatten computeOf readable onReading ruleOk withRoom anyObject bytesFor written resultOf branch
-    withCreator fromDefault inheritedBit lastStep lastOf resolved entryBytes mapped inPlace fromCreator ownEntries fromParent secondPart takesSecond
+    withCreator fromDefault inheritedBit lastStep lastOf resolved entryBytes lastMask mends mended mapped inPlace fromCreator ownEntries fromParent secondPart takesSecond
     firstPart takesFirst keptFlags pass typeApplies among anyHeritable entriesIf typesOk typesOf checkOf finish walkOf onGood headBytes render entriesOf cut
     headerOk revOk entryOf need tailOk wordAfter headOf flagsOk kindOk objectKind objectOf plainOf identityOf placeholderOf isSid sidLen guidAt
     sameBytes spell le
 worked = refl
 
--- each generic bit joins its mapping, and stays; 10000000 adds nothing
+-- masks as they came, one for each generic bit, all of them with a bit more, and none
+abbrev came : List ℕ
+came = 0x80000000 ∷ 0x40000000 ∷ 0x20000000 ∷ 0x10000000 ∷ 0xF0000001 ∷ 0x00000001 ∷ []
+
+-- a mapping that brings generic bits in
+abbrev bringing : Mapping
+bringing = record { read = 0x50000001; write = 0x20000002; execute = 0xF0000004; all = 0x80000008 }
+
+-- 2.9: rule 1 joins three mappings, and the generic bits stay; rule 2 joins four and clears them, those too that a mapping brings in, which join nothing
 pub masks-worked :
-    (mapped mapping 0x80000000 ≡ 0x80120089)
-    × ((mapped mapping 0x40000000 ≡ 0x40120116)
-    × ((mapped mapping 0x20000000 ≡ 0x201200A0)
-    × ((mapped mapping 0x10000000 ≡ 0x10000000)
-    × (mapped mapping 0xF0000001 ≡ 0xF01201BF))))
-unfolding mapped
-masks-worked = (refl, (refl, (refl, (refl, refl))))
+    (map (lastMask 1 mapping) came ≡ 0x80120089 ∷ 0x40120116 ∷ 0x201200A0 ∷ 0x10000000 ∷ 0xF01201BF ∷ 0x00000001 ∷ [])
+    × ((map (lastMask 2 mapping) came ≡ 0x00120089 ∷ 0x00120116 ∷ 0x001200A0 ∷ 0x001F01FF ∷ 0x001F01FF ∷ 0x00000001 ∷ [])
+    × ((map (lastMask 1 bringing) came ≡ 0xD0000001 ∷ 0x60000002 ∷ 0xF0000004 ∷ 0x10000000 ∷ 0xF0000007 ∷ 0x00000001 ∷ [])
+    × (map (lastMask 2 bringing) came ≡ 0x00000001 ∷ 0x00000002 ∷ 0x00000004 ∷ 0x00000008 ∷ 0x0000000F ∷ 0x00000001 ∷ [])))
+unfolding lastMask mends mended mapped
+masks-worked = (refl, (refl, (refl, refl)))
 
 -- ---- what K1 to K12 leave open, worked by hand from RULES 2 and 4.4
 
@@ -159,6 +170,16 @@ users = 0x01 ∷ 0x01 ∷ 0 ∷ 0 ∷ 0 ∷ 0 ∷ 0 ∷ 0x05 ∷ 0x0B ∷ 0 ∷ 
 -- an entry of 20 bytes, mask 1; creator owner is 0, creator group 1
 abbrev entry20 : ℕ → ℕ → List ℕ → List ℕ
 entry20 kind flags sid = kind ∷ flags ∷ 0x14 ∷ 0 ∷ 0x01 ∷ 0 ∷ 0 ∷ 0 ∷ sid
+
+-- an allow entry for S-1-5-11 with a mask in its bytes: 10000000, and what rule 2 makes of it, 001F01FF
+abbrev for-users : List ℕ → ℕ → List ℕ
+for-users mask flags = 0x00 ∷ flags ∷ 0x14 ∷ 0 ∷ (mask ++ users)
+
+abbrev full : ℕ → List ℕ
+full flags = for-users (0 ∷ 0 ∷ 0 ∷ 0x10 ∷ []) flags
+
+abbrev opened : ℕ → List ℕ
+opened flags = for-users (0xFF ∷ 0x01 ∷ 0x1F ∷ 0 ∷ []) flags
 
 abbrev creators : ℕ → List ℕ
 creators k = 0x01 ∷ 0x01 ∷ 0 ∷ 0 ∷ 0 ∷ 0 ∷ 0 ∷ 0x03 ∷ k ∷ 0 ∷ 0 ∷ 0 ∷ []
@@ -262,6 +283,21 @@ pub record More : Type 0 where
   pub own-only :
       gives (ask 1 (one 0 0x08) (some (listed 0x30 2 (entry20 0 0x10 users ∷ entry20 1 0x0B users ∷ []))) (one 0 0x00) false [] false) 30
       ≡ record { answer = done 28 1 1 0; out = listed 0x1C 1 (entry20 1 0x0B users ∷ []) ++ (7 ∷ 7 ∷ []) }
+  -- 2.9, full control in each row of the table under rule 2, IO entries too: from the parent; own entries, then P; the default list; own entries
+  pub full-parent :
+      gives (ask 2 (some (listed 0x1C 1 (full 0x03 ∷ []))) none none true [] false) 48
+      ≡ record { answer = done 48 1 2 0; out = listed 0x30 2 (opened 0x10 ∷ opened 0x1B ∷ []) }
+  pub full-both :
+      gives (ask 2 (some (listed 0x1C 1 (full 0x01 ∷ []))) (some (listed 0x1C 1 (full 0x0B ∷ []))) none false [] false) 48
+      ≡ record { answer = done 48 1 2 0x0400; out = listed 0x30 2 (opened 0x0B ∷ opened 0x10 ∷ []) }
+  pub full-default :
+      gives (ask 2 none none (some (listed 0x30 2 (full 0x00 ∷ full 0x1B ∷ []))) true [] false) 48
+      ≡ record { answer = done 48 1 2 0; out = listed 0x30 2 (opened 0x00 ∷ opened 0x1B ∷ []) }
+  pub full-own : gives (ask 2 none (some (listed 0x1C 1 (full 0x08 ∷ []))) none true [] false) 28 ≡ record { answer = done 28 1 1 0; out = listed 0x1C 1 (opened 0x08 ∷ []) }
+  -- under rule 1 it stays as it came
+  pub full-rule-1 :
+      gives (ask 1 (some (listed 0x1C 1 (full 0x03 ∷ []))) none none true [] false) 48
+      ≡ record { answer = done 48 1 2 0; out = listed 0x30 2 (full 0x10 ∷ full 0x1B ∷ []) }
   -- 4.4: 12, then 1 to 5 of the parent's list, the creator's, the default list, then 6 for owner and group, then 7, then 8; the buffer as it was
   pub refusals :
       map (λ (a : Asked). computeOf a 0)
@@ -284,7 +320,7 @@ pub record More : Type 0 where
 
 pub more : More
 unfolding flatten computeOf readable onReading ruleOk withRoom anyObject bytesFor written resultOf branch
-    withCreator fromDefault inheritedBit lastStep lastOf resolved entryBytes mapped inPlace fromCreator ownEntries fromParent secondPart takesSecond
+    withCreator fromDefault inheritedBit lastStep lastOf resolved entryBytes lastMask mends mended mapped inPlace fromCreator ownEntries fromParent secondPart takesSecond
     firstPart takesFirst keptFlags pass typeApplies among anyHeritable entriesIf typesOk typesOf checkOf finish walkOf onGood headBytes render entriesOf cut
     headerOk revOk entryOf need tailOk wordAfter headOf flagsOk kindOk objectKind objectOf plainOf identityOf placeholderOf isSid sidLen guidAt
     sameBytes spell le
@@ -303,6 +339,11 @@ more =
       rule-2 = refl;
       default-list = refl;
       own-only = refl;
+      full-parent = refl;
+      full-both = refl;
+      full-default = refl;
+      full-own = refl;
+      full-rule-1 = refl;
       refusals = refl;
       as-it-was = refl;
     }

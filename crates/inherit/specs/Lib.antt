@@ -5,3 +5,4 @@ pub mod Branch
 pub mod Compute
 pub mod Inner
 pub mod Spare
+pub mod Said

@@ -6,7 +6,7 @@ ghost use lib.ListN.{length};
 ghost use Rattle.list.specs.Bytes.{front, spell};
 ghost use Rattle.list.specs.Identity.{placeholderOf};
 ghost use Rattle.list.specs.Entry.{entryBytes};
-ghost use Rattle.inherit.specs.Last.{inPlace, joined as Last·joined, mapped as Last·mapped};
+ghost use Rattle.inherit.specs.Last.{inPlace, joined as Last·joined, mapped as Last·mapped, mends as Last·mends, lastMask};
 use crate::Mapping;
 
 // The owner's bytes for creator owner, the group's for creator group, else the SID's own.
@@ -34,13 +34,33 @@ fn joined(bit: u32, came: u32, mask: u32, mapping: u32) -> u32
     }
 }
 
-// The mask with the mappings of its generic bits joined.
-pub(crate) fn mapped(mapping: Mapping, mask: u32) -> u32
+// The printed text's mask: three mappings joined.
+fn mapped(mapping: Mapping, mask: u32) -> u32
     ensures { λ r. ⌜ r ≡ Last·mapped mapping mask ⌝ }
 {
     let read = joined(0x8000_0000, mask, mask, mapping.read);
     let write = joined(0x4000_0000, mask, read, mapping.write);
     joined(0x2000_0000, mask, write, mapping.execute)
+}
+
+// Whether the rule mends the printed text.
+fn mends(rule: u32) -> bool
+    ensures { λ r. ⌜ r ≡ Last·mends rule ⌝ }
+{
+    rule == 2
+}
+
+// The mask as the last step leaves it: the printed text's; or mended, with the fourth mapping joined, and then without the generic bits.
+pub(crate) fn last_mask(rule: u32, mapping: Mapping, mask: u32) -> u32
+    ensures { λ r. ⌜ r ≡ lastMask rule mapping mask ⌝ }
+{
+    let three = mapped(mapping, mask);
+    let four = joined(0x1000_0000, mask, three, mapping.all);
+    if mends(rule) {
+        four & 0x0FFF_FFFF
+    } else {
+        three
+    }
 }
 
 // An entry's first eight bytes.

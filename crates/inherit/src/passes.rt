@@ -14,7 +14,7 @@ use crate::copies::Terms;
 use crate::copies::new_flags;
 use crate::copies::takes;
 use crate::last::in_place;
-use crate::last::mapped;
+use crate::last::last_mask;
 use crate::last::put_entry;
 use list::Checked;
 use list::Entry;
@@ -189,7 +189,7 @@ fn write_one<'a>(
         return Written { size, bytes: 0 };
     }
     let flags = new_flags(pass, e.flags);
-    let mask = mapped(terms.mapping, e.mask);
+    let mask = last_mask(terms.rule, terms.mapping, e.mask);
     let bytes = put_copy(
         out,
         t,

@@ -1,13 +1,14 @@
--- Bits of a mask: one bit, 2 ^ k, is tested by `has`; of a meet, a join and what is left when bits are taken away; and a mask without bits is 0.
+-- Bits of a mask: one bit, 2 ^ k, is tested by `has`; of a meet, a join and what is left when bits are taken away; a mask without bits is 0; and the
+-- four generic bits.
 use mathlib.Core.Path.{_≡_, refl, sym, ap, ap₂, _∙_}
 use mathlib.Core.Bool.{Bool, true, false, not, _&&_, _||_}
 use Prim.Native.Nat.{ℕ, zero, suc, _+_, _*_, _-_, _/_, _%_, _^_, _<_}
-use native.Mathlib.Nat.{mod-lt, mod-eq-of-lt, zero-mul, div-one}
+use native.Mathlib.Nat.{mod-lt, mod-eq-of-lt, zero-mul, div-one, div-eq-of-lt}
 use native.Mathlib.Omega.{arith}
 use lib.Dec.{eqb}
-use lib.Bits.{bitAnd, bitOr, bitXor, and-high, and-shr, or-shr, xor-shr, and-mod, or-mod, xor-mod}
+use lib.Bits.{bitAnd, bitOr, bitXor, and-high, and-shr, or-shr, xor-shr, and-mod, or-mod, xor-mod, and-le-r, or-add-and}
 use lib.Pow.{pow-pos, pow-add, mod-pow-add}
-use borrow.Author.Tests.{ne-eqb, eqb-true}
+use borrow.Author.Tests.{ne-eqb, eqb-true, not-false}
 use Rattle.list.specs.Bytes.{has}
 use Rattle.list.proofs.Tests.{off}
 
@@ -94,3 +95,45 @@ no-bits m n l h = sym (mod-eq-of-lt l) ∙ low-none m n h
 
 pub has-zero : (k : ℕ) → has (2 ^ k) 0 ≡ false
 has-zero k = refl
+
+-- two numbers that have one bit have common bits
+pub has-common : (k n m : ℕ) → has (2 ^ k) n ≡ true → has (2 ^ k) m ≡ true → has m n ≡ true
+has-common k n m p q = by (eqb (bitAnd n m) 0) refl
+  where
+    by : (b : Bool) → eqb (bitAnd n m) 0 ≡ b → not b ≡ true
+    by true e = sym (has-zero k) ∙ (rw (eqb-true (bitAnd n m) 0 e) at (has-and k n m)) ∙ rw (p, q)
+    by false e = refl
+
+-- a bit above all of a number's
+pub has-above : (k n : ℕ) → n < 2 ^ k → has (2 ^ k) n ≡ false
+has-above k n l = has-is k n ∙ ap (λ (x : ℕ). eqb (x % 2) 1) (div-eq-of-lt l)
+
+-- ---- the four generic bits, as a number
+
+abbrev generic : ℕ → ℕ
+generic n = n / 2 ^ 28 % 2 ^ 4
+
+generic-is : (n : ℕ) → has 0xF0000000 n ≡ not (eqb (generic n) 0)
+generic-is n = ap (λ (x : ℕ). not (eqb x 0)) (and-high n 4 28) ∙ by (generic n)
+  where
+    by : (x : ℕ) → not (eqb (x * 2 ^ 28) 0) ≡ not (eqb x 0)
+    by zero = refl
+    by (suc x) = rw (ne-eqb (suc x * 2 ^ 28) 0 (λ e. omega arith), ne-eqb (suc x) 0 (λ e. omega arith))
+
+pub generic-or : (a b : ℕ) → has 0xF0000000 (bitOr a b) ≡ (has 0xF0000000 a || has 0xF0000000 b)
+generic-or a b =
+    generic-is (bitOr a b)
+    ∙ ap (λ (x : ℕ). not (eqb x 0)) (ap (λ (x : ℕ). x % 2 ^ 4) (or-shr a b 28) ∙ or-mod (a / 2 ^ 28) (b / 2 ^ 28) 4)
+    ∙ by (generic a) (generic b)
+    ∙ sym (ap₂ (λ (x y : Bool). x || y) (generic-is a) (generic-is b))
+  where
+    by : (x y : ℕ) → not (eqb (bitOr x y) 0) ≡ (not (eqb x 0) || not (eqb y 0))
+    by zero y = refl
+    by (suc x) y = rw (ne-eqb (bitOr (suc x) y) 0 (λ e. omega (arith, or-add-and (suc x) y, and-le-r (suc x) y)), ne-eqb (suc x) 0 (λ e. omega arith))
+
+-- a number below them has none of them, and a mask that has none is below them
+pub below-generic : (n : ℕ) → n < 2 ^ 28 → has 0xF0000000 n ≡ false
+below-generic n l = generic-is n ∙ ap (λ (x : ℕ). not (eqb (x % 2 ^ 4) 0)) (div-eq-of-lt l)
+
+pub generic-below : (n : ℕ) → n < 2 ^ 32 → has 0xF0000000 n ≡ false → n < 2 ^ 28
+generic-below n l h = omega (arith, eqb-true (generic n) 0 (not-false (eqb (generic n) 0) (sym (generic-is n) ∙ h)))

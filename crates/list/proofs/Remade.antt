@@ -2,10 +2,10 @@
 use mathlib.Core.Path.{_≡_, refl, sym, ap, ap₂, _∙_}
 use mathlib.Core.Bool.{Bool, true, false, cond}
 use mathlib.Core.List.{List, _++_}
-use Prim.Native.Nat.{ℕ, _+_, _-_, _%_, _≤_, _<_}
+use Prim.Native.Nat.{ℕ, _+_, _-_, _≤_, _<_}
 use native.Mathlib.Omega.{arith}
 use lib.ListN.{length, take, drop, set, length-append, length-drop, take-append-drop}
-use lib.Seq.{length-take-le, take-append-le, drop-append-le, take-at, drop-at, drop-drop, drop-set-lt, getD-set-same, getD-set-other}
+use lib.Seq.{length-take-le, take-length, take-append-le, drop-append-le, take-at, drop-at, drop-drop, drop-set-lt, getD-set-same, getD-set-other}
 use lib.Dec.{eqb}
 use borrow.Author.Tests.{eqb-true, eq-eqb, le-leb}
 use Rattle.list.specs.Bytes.{has, le, spell, guidAt}
@@ -183,6 +183,11 @@ module _ (p : EntryParts) where
       let n = 8 + (length (p .middle) + (length (p .sid) + length (p .tail))) in
       le-append 2 (spell 2 n) (spell 4 (p .mask) ++ (p .middle ++ (p .sid ++ p .tail))) (omega (arith, length-spell 2 n)) ∙ le-spell 2 n h ∙ sym length-entry
 
+  pub mask-entry : p .mask < 4294967296 → maskOf (entryBytes p) ≡ p .mask
+  unfolding entryBytes spell
+  mask-entry h =
+      le-append 4 (spell 4 (p .mask)) (p .middle ++ (p .sid ++ p .tail)) (omega (arith, length-spell 4 (p .mask))) ∙ le-spell 4 (p .mask) h
+
   pub rest-entry : drop 8 (entryBytes p) ≡ p .middle ++ (p .sid ++ p .tail)
   unfolding entryBytes spell
   rest-entry = refl
@@ -210,6 +215,9 @@ module _ (f : Family) (rev : ℕ) (e : List ℕ) (w : Whole f rev e) (flags mask
 
   pub remade-flags : flagsOf (remake e flags mask sid) ≡ flags
   remade-flags = flags-entry (remadeParts e flags mask sid)
+
+  pub remade-mask : mask < 4294967296 → maskOf (remake e flags mask sid) ≡ mask
+  remade-mask = mask-entry (remadeParts e flags mask sid)
 
   pub remade-length : length (remake e flags mask sid) ≡ sidAt e + length sid
   remade-length =
@@ -253,8 +261,27 @@ module _ (f : Family) (rev : ℕ) (e : List ℕ) (w : Whole f rev e) (flags mask
   pub remade-sid : sidOf (remake e flags mask sid) ≡ sid
   remade-sid = ap₂ (λ (n : ℕ) (s : List ℕ). take n s) remade-sidLen after ∙ take-at sid (tailOf e) (length sid) refl
 
+  pub remade-middle : middleOf (remake e flags mask sid) ≡ middleOf e
+  remade-middle =
+      ap₂ (λ (n : ℕ) (s : List ℕ). take (n - 8) s) remade-sidAt rest
+      ∙ take-at (middleOf e) (sid ++ tailOf e) (sidAt e - 8) (bounds f rev e (w .sound) .middle)
+
   pub remade-sidEnd : sidEnd (remake e flags mask sid) ≡ sidAt e + length sid
   remade-sidEnd = ap₂ (λ (x y : ℕ). x + y) remade-sidAt remade-sidLen
+
+  pub remade-tail : tailOf (remake e flags mask sid) ≡ tailOf e
+  remade-tail =
+      let m = remake e flags mask sid in
+      let n : sizeOf m - sidEnd m ≡ length (tailOf e) =
+      omega (arith, remade-size, remade-sidEnd, length-entry (remadeParts e flags mask sid), bounds f rev e (w .sound)) in
+      let d : drop (sidEnd m) m ≡ tailOf e =
+      ap (λ (i : ℕ). drop (sidAt m + i) m) remade-sidLen ∙ sym (drop-drop (length sid) (sidAt m) m) ∙ ap (drop (length sid)) after ∙ drop-at sid (tailOf e) (length sid) refl in
+      ap₂ (λ (i : ℕ) (s : List ℕ). take i s) n d ∙ take-length (tailOf e)
+
+  -- made again of its own parts it is the same
+  pub remade-again : remake (remake e flags mask sid) flags mask sid ≡ remake e flags mask sid
+  unfolding entryBytes
+  remade-again = rw (remade-kind, remade-middle, remade-tail)
 
   pub remade-whole : Whole f rev (remake e flags mask sid)
   unfolding tailOk

@@ -15,7 +15,7 @@ use Rattle.list.specs.List.{revOk, headerOk, cut, entriesOf, headBytes, render,
 use Rattle.inherit.specs.Asked.{Asked, entriesIf, typesOk, typesOf}
 use Rattle.inherit.specs.Inner.Source.{given}
 use Rattle.inherit.specs.Copies.{anyHeritable, typeApplies, pass, keptFlags, takesFirst, firstPart, takesSecond, secondPart, fromParent, ownEntries, fromCreator}
-use Rattle.inherit.specs.Last.{inPlace, mapped, resolved, lastOf, lastStep}
+use Rattle.inherit.specs.Last.{inPlace, mapped, mends, mended, lastMask, resolved, lastOf, lastStep}
 use Rattle.inherit.specs.Branch.{inheritedBit, withCreator, fromDefault, branch, resultOf}
 use Rattle.inherit.specs.Compute.{anyObject, withRoom, onReading, readable, ruleOk, computeOf, bytesFor, askedBy}
 use Rattle.inherit.proofs.Worked.{mapping, system, parentWith, inherited, listed}
@@ -48,7 +48,7 @@ unfolding anyHeritable among typeApplies pass keptFlags takesFirst firstPart tak
 copies-open = tt
 
 unfoldable pub last-open : Unit {0}
-unfolding inPlace mapped resolved lastOf lastStep inheritedBit withCreator fromDefault branch resultOf
+unfolding inPlace mapped mends mended lastMask resolved lastOf lastStep inheritedBit withCreator fromDefault branch resultOf
 last-open = tt
 
 unfoldable pub compute-open : Unit {0}

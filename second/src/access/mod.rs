@@ -6,15 +6,12 @@ mod question;
 mod refused;
 mod step;
 
-use crate::ace::INHERIT_ONLY;
+use crate::ace::{GENERIC, INHERIT_ONLY};
 use crate::list::{Entry, EntryType, Guid, List};
 pub use held::{MOST_HELD, held_sids};
 pub use question::Question;
 pub use refused::Refused;
 pub use step::{step, try_step};
-
-/// 80000000, 40000000, 20000000 and 10000000 may not be wanted.
-pub const GENERIC: u32 = 0xF000_0000;
 
 /// Why it is a yes or a no. Where several bits fail, the lowest tells.
 #[derive(Clone, Copy, Debug, PartialEq, Eq)]

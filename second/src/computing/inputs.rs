@@ -87,10 +87,22 @@ pub enum Rule {
     Two,
 }
 
+impl Rule {
+    /// Whether the last step mends masks as document 02's third ticket says.
+    /// Rule 1 stays the printed text.
+    pub fn mends(self) -> bool {
+        match self {
+            Rule::One => false,
+            Rule::Two => true,
+        }
+    }
+}
+
 pub struct Mapping {
     pub read: u32,
     pub write: u32,
     pub execute: u32,
+    pub all: u32,
 }
 
 /// Good inputs, taken apart.
@@ -122,7 +134,7 @@ impl Inputs {
         let owner = ordinary(&request.owner).ok_or(Refused::Owner)?;
         let group = ordinary(&request.group).ok_or(Refused::Group)?;
         let object_types = object_types(&request.types).ok_or(Refused::Types)?;
-        let [read, write, execute, _all] = request.mapping;
+        let [read, write, execute, all] = request.mapping;
         Ok(Inputs {
             rule,
             parent,
@@ -131,11 +143,11 @@ impl Inputs {
             owner,
             group,
             object_types,
-            // 10000000 adds nothing, so the mapping of all is never used.
             mapping: Mapping {
                 read,
                 write,
                 execute,
+                all,
             },
             is_container: request.has(setting::CONTAINER),
             auto_inherit: request.has(setting::AUTO_INHERIT),

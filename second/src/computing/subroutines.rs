@@ -1,14 +1,17 @@
-//! The subroutines of MS-DTYP 2.5.3.4, as document 01 changes them. Each
-//! takes entries and gives entries; bytes come later.
+//! The subroutines of MS-DTYP 2.5.3.4, as documents 01 and 02 change them.
+//! Each takes entries and gives entries; bytes come later.
 
 use super::inputs::{Inputs, Mapping, Rule};
-use crate::ace::{Ace, CONTAINER_INHERIT, INHERIT_ONLY, INHERITED, NO_PROPAGATE, OBJECT_INHERIT};
+use crate::ace::{
+    Ace, CONTAINER_INHERIT, GENERIC, INHERIT_ONLY, INHERITED, NO_PROPAGATE, OBJECT_INHERIT,
+};
 use crate::identity::{Identity, Role};
 use crate::list::Guid;
 
 const GENERIC_READ: u32 = 0x8000_0000;
 const GENERIC_WRITE: u32 = 0x4000_0000;
 const GENERIC_EXECUTE: u32 = 0x2000_0000;
+const GENERIC_ALL: u32 = 0x1000_0000;
 const DACL_AUTO_INHERITED: u32 = 0x0400;
 
 /// The rows of document 01's table.
@@ -180,7 +183,7 @@ fn post_process_acl(acl: Vec<Ace>, filter: CopyFilter, inputs: &Inputs) -> Vec<A
     acl.into_iter()
         .filter(|ace| filter == CopyFilter::AllAces || ace.has(INHERITED))
         .map(|ace| Ace {
-            mask: map_generic_bits(ace.mask, &inputs.mapping),
+            mask: map_generic_bits(ace.mask, inputs.rule, &inputs.mapping),
             sid: substitute(ace.sid, &inputs.owner, &inputs.group),
             ..ace
         })
@@ -195,13 +198,38 @@ fn substitute(sid: Identity, owner: &Identity, group: &Identity) -> Identity {
     }
 }
 
-/// The mask as it came decides; the generic bits stay.
-fn map_generic_bits(mask: u32, mapping: &Mapping) -> u32 {
+fn map_generic_bits(mask: u32, rule: Rule, mapping: &Mapping) -> u32 {
+    if rule.mends() {
+        mended(mask, mapping)
+    } else {
+        as_printed(mask, mapping)
+    }
+}
+
+/// The generic bits stay, and 10000000 adds nothing.
+fn as_printed(mask: u32, mapping: &Mapping) -> u32 {
     let additions = [
         (GENERIC_READ, mapping.read),
         (GENERIC_WRITE, mapping.write),
         (GENERIC_EXECUTE, mapping.execute),
     ];
-    let joined = additions.iter().filter(|(bit, _)| mask & bit != 0);
-    joined.fold(mask, |new, (_, addition)| new | addition)
+    joined(mask, &additions)
+}
+
+/// 10000000 joins "all" too. Then the four generic bits are cleared, also
+/// those that a mapping brought in.
+fn mended(mask: u32, mapping: &Mapping) -> u32 {
+    let additions = [
+        (GENERIC_READ, mapping.read),
+        (GENERIC_WRITE, mapping.write),
+        (GENERIC_EXECUTE, mapping.execute),
+        (GENERIC_ALL, mapping.all),
+    ];
+    joined(mask, &additions) & !GENERIC
+}
+
+/// The mask as it came decides.
+fn joined(mask: u32, additions: &[(u32, u32)]) -> u32 {
+    let asked_for = additions.iter().filter(|(bit, _)| mask & bit != 0);
+    asked_for.fold(mask, |new, (_, addition)| new | addition)
 }

@@ -1,3 +1,5 @@
+mod masks;
+
 use super::*;
 use crate::cases::inherit::worked;
 use crate::hex;
@@ -9,9 +11,14 @@ const GUID: &str = "00112233445566778899AABBCCDDEEFF";
 const OTHER_GUID: &str = "FFEEDDCCBBAA99887766554433221100";
 const EMPTY: &str = "02 00 08 00 00 00 00 00";
 
-const K1: &str = "02 00 30 00 02 00 00 00 \
+/// As document 01 prints it: by rule 1.
+const K1_BY_RULE_1: &str = "02 00 30 00 02 00 00 00 \
     00 10 14 00 89 00 12 80 01 01 00 00 00 00 00 05 12 00 00 00 \
     00 1B 14 00 89 00 12 80 01 01 00 00 00 00 00 05 12 00 00 00";
+/// With document 02's mask 00120089: by rule 2.
+const K1_BY_RULE_2: &str = "02 00 30 00 02 00 00 00 \
+    00 10 14 00 89 00 12 00 01 01 00 00 00 00 00 05 12 00 00 00 \
+    00 1B 14 00 89 00 12 00 01 01 00 00 00 00 00 05 12 00 00 00";
 
 fn bytes(text: &str) -> Vec<u8> {
     hex::decode(text).unwrap()
@@ -40,20 +47,41 @@ fn assert_done_by_either_rule(request: Request, list: &str, count: u32) {
     }
 }
 
+/// Lists by rule 1 and by rule 2.
+#[track_caller]
+fn assert_done_by_rules(request: Request, lists: [&str; 2], count: u32) {
+    for (rule, list) in [1, 2].into_iter().zip(lists) {
+        assert_done(&request.clone().with_rule(rule), list, count, 0);
+    }
+}
+
 #[track_caller]
 fn assert_refused(request: &Request, number: u32, list: u32, offset: u32) {
     let numbers = [number, list, offset, 0, 0, 0, 0, 0];
     assert_eq!(run(request), (numbers, Vec::new()));
 }
 
-/// One entry: allow, the mask that read makes, S-1-5-18.
+const K1_BY_RULES: [&str; 2] = [K1_BY_RULE_1, K1_BY_RULE_2];
+
+/// One entry: allow, the mask 00120089, S-1-5-18.
 fn one_entry(flags: &str) -> String {
+    format!("02 00 1C 00 01 00 00 00  00 {flags} 14 00 89 00 12 00 {SYSTEM}")
+}
+
+/// The same, with the generic bit that rule 1 leaves.
+fn one_entry_by_rule_1(flags: &str) -> String {
     format!("02 00 1C 00 01 00 00 00  00 {flags} 14 00 89 00 12 80 {SYSTEM}")
+}
+
+#[track_caller]
+fn assert_one_entry_by_rules(request: Request, flags: &str) {
+    let lists = [one_entry_by_rule_1(flags), one_entry(flags)];
+    assert_done_by_rules(request, lists.each_ref().map(String::as_str), 1);
 }
 
 #[test]
 fn k1_container_without_creator() {
-    assert_done_by_either_rule(worked::k1(), K1, 2);
+    assert_done_by_rules(worked::k1(), K1_BY_RULES, 2);
     let parent = "02 00 1C 00 01 00 00 00 \
         00 03 14 00 00 00 00 80 01 01 00 00 00 00 00 03 00 00 00 00";
     assert_eq!(worked::k1().parent, bytes(parent));
@@ -61,14 +89,14 @@ fn k1_container_without_creator() {
 
 #[test]
 fn k2_not_a_container() {
-    assert_done_by_either_rule(worked::k2(), &one_entry("10"), 1);
+    assert_one_entry_by_rules(worked::k2(), "10");
 }
 
 #[test]
 fn k3_to_k5_other_flags_in_the_parent() {
-    assert_done_by_either_rule(worked::k3(), &one_entry("10"), 1);
-    assert_done_by_either_rule(worked::k4(), &one_entry("19"), 1);
-    assert_done_by_either_rule(worked::k5(), K1, 2);
+    assert_one_entry_by_rules(worked::k3(), "10");
+    assert_one_entry_by_rules(worked::k4(), "19");
+    assert_done_by_rules(worked::k5(), K1_BY_RULES, 2);
 }
 
 #[test]
@@ -90,14 +118,14 @@ fn k7_to_k9_beside_a_creator() {
         1,
         0,
     );
-    let k1_entries = &K1[K1.find("00 10").unwrap()..];
+    let k1_entries = &K1_BY_RULE_2[K1_BY_RULE_2.find("00 10").unwrap()..];
     let all_three = format!("02 00 44 00 03 00 00 00 {creators} {k1_entries}");
     assert_done(&worked::k9(), &all_three, 3, 0x0400);
 }
 
 #[test]
 fn k10_protected_without_creator() {
-    assert_done_by_either_rule(worked::k10(), K1, 2);
+    assert_done_by_rules(worked::k10(), K1_BY_RULES, 2);
 }
 
 #[test]
@@ -129,19 +157,22 @@ fn k11_placeholders_are_no_owner_and_no_group() {
 
 #[test]
 fn k12_rooms() {
-    let mut room = [0xEE; 47];
-    let refused = compute(&worked::k12(), &mut room);
-    assert_eq!(refused.eight(), [8, 0, 0, 0, 0, 0, 0, 0]);
-    assert_eq!(room, [0xEE; 47]);
-    let mut room = [0xEE; 48];
-    let done = compute(&worked::k12(), &mut room);
-    assert_eq!(done.eight(), [0, 0, 0, 48, 1, 2, 0, 0]);
-    assert_eq!(room[..], bytes(K1));
+    for (rule, list) in [1, 2].into_iter().zip(K1_BY_RULES) {
+        let request = worked::k12().with_rule(rule);
+        let mut room = [0xEE; 47];
+        let refused = compute(&request, &mut room);
+        assert_eq!(refused.eight(), [8, 0, 0, 0, 0, 0, 0, 0]);
+        assert_eq!(room, [0xEE; 47]);
+        let mut room = [0xEE; 48];
+        let done = compute(&request, &mut room);
+        assert_eq!(done.eight(), [0, 0, 0, 48, 1, 2, 0, 0]);
+        assert_eq!(room[..], bytes(list));
+    }
 }
 
 #[test]
 fn rule_1_with_automatic_inheritance_keeps_the_parents_part() {
-    assert_done(&worked::k9().with_rule(1), K1, 2, 0x0400);
+    assert_done(&worked::k9().with_rule(1), K1_BY_RULE_1, 2, 0x0400);
     let protected = worked::k9().with_rule(1).with(setting::PROTECTED);
     assert_done(&protected, EMPTY, 0, 0);
 }
@@ -149,7 +180,7 @@ fn rule_1_with_automatic_inheritance_keeps_the_parents_part() {
 #[test]
 fn a_default_descriptor_leaves_the_creator_out() {
     let request = worked::k9().with(setting::DEFAULT_DESCRIPTOR);
-    assert_done_by_either_rule(request, K1, 2);
+    assert_done_by_rules(request, K1_BY_RULES, 2);
 }
 
 #[test]
@@ -195,15 +226,18 @@ fn own_entries_drop_inherited_ones_and_the_default_list_keeps_them() {
         group: bytes("01 00 000000000001"),
         ..worked::k6()
     };
-    let own = "02 00 18 00 01 00 00 00  00 0F 10 00 A2 00 12 20 01 00 000000000001";
-    assert_done_by_either_rule(request.clone().with_creator(bytes(&list)), own, 1);
-    let kept = format!(
-        "02 00 40 00 03 00 00 00 \
-         01 12 14 00 01 00 00 00 {SYSTEM} \
-         00 0F 10 00 A2 00 12 20 01 00 000000000001 \
-         00 18 14 00 03 00 00 00 {SYSTEM}"
-    );
-    assert_done_by_either_rule(request.with_default(bytes(&list)), &kept, 3);
+    for (rule, mask) in [(1, "A2 00 12 20"), (2, "A2 00 12 00")] {
+        let request = request.clone().with_rule(rule);
+        let own = format!("02 00 18 00 01 00 00 00  00 0F 10 00 {mask} 01 00 000000000001");
+        assert_done(&request.clone().with_creator(bytes(&list)), &own, 1, 0);
+        let kept = format!(
+            "02 00 40 00 03 00 00 00 \
+             01 12 14 00 01 00 00 00 {SYSTEM} \
+             00 0F 10 00 {mask} 01 00 000000000001 \
+             00 18 14 00 03 00 00 00 {SYSTEM}"
+        );
+        assert_done(&request.with_default(bytes(&list)), &kept, 3, 0);
+    }
 }
 
 /// With bytes behind it, inside the stated size.
@@ -307,30 +341,6 @@ fn the_second_part_asks_for_no_type() {
 }
 
 #[test]
-fn the_mask_as_it_came_decides() {
-    let with_mask = |mask: &str, sid: &str| {
-        bytes(&format!(
-            "02 00 1C 00 01 00 00 00  00 00 14 00 {mask} {sid}"
-        ))
-    };
-    let mapped = |from: &str, to: &str, mapping: [u32; 4]| {
-        let request = Request {
-            mapping,
-            ..worked::k6().with_default(with_mask(from, SYSTEM))
-        };
-        assert_eq!(run(&request).1, with_mask(to, SYSTEM), "{from}");
-    };
-    mapped("00000080", "01000080", [1, 2, 4, 8]);
-    mapped("00000040", "02000040", [1, 2, 4, 8]);
-    mapped("00000020", "04000020", [1, 2, 4, 8]);
-    mapped("00000010", "00000010", [1, 2, 4, 8]);
-    mapped("000100F0", "070100F0", [1, 2, 4, 8]);
-    mapped("FFFFFF0F", "FFFFFF0F", [1, 2, 4, 8]);
-    // A generic bit that a mapping brings in joins nothing more.
-    mapped("00000080", "010000E0", [0x6000_0001, 2, 4, 8]);
-}
-
-#[test]
 fn near_placeholders_stay() {
     for sid in ["01 01 000000000003 02000000", "01 01 030000000000 00000000"] {
         let list = format!("02 00 1C 00 01 00 00 00  00 00 14 00 00 00 00 00 {sid}");
@@ -345,7 +355,7 @@ fn absent_lists_and_unknown_settings_are_not_looked_at() {
         default_list: vec![0xFF],
         ..worked::k1().with(!setting::ALL)
     };
-    assert_done_by_either_rule(request, K1, 2);
+    assert_done_by_rules(request, K1_BY_RULES, 2);
 }
 
 /// Bad at every stage; then each stage is made good in turn.

@@ -245,6 +245,7 @@ fn the_examples_that_tell_a_story() {
         "chain_over_1024",
         "cut_file",
         "undo_past_the_steps",
+        "full_control",
     ];
     for name in names {
         let read = |ending| std::fs::read(folder.join(format!("{name}.{ending}"))).unwrap();

@@ -10,8 +10,12 @@ const PARENT: &str = "02 00 1C 00 01 00 00 00 \
     00 03 14 00 00 00 00 80 01 01 00 00 00 00 00 03 00 00 00 00";
 /// What it becomes as the root's own list.
 const ROOTS: &str = "02 00 1C 00 01 00 00 00 \
-    00 03 14 00 89 00 12 80 01 01 00 00 00 00 00 05 12 00 00 00";
+    00 03 14 00 89 00 12 00 01 01 00 00 00 00 00 05 12 00 00 00";
 const K1: &str = "02 00 30 00 02 00 00 00 \
+    00 10 14 00 89 00 12 00 01 01 00 00 00 00 00 05 12 00 00 00 \
+    00 1B 14 00 89 00 12 00 01 01 00 00 00 00 00 05 12 00 00 00";
+/// By rule 1 the generic bit stays.
+const K1_BY_RULE_1: &str = "02 00 30 00 02 00 00 00 \
     00 10 14 00 89 00 12 80 01 01 00 00 00 00 00 05 12 00 00 00 \
     00 1B 14 00 89 00 12 80 01 01 00 00 00 00 00 05 12 00 00 00";
 /// One entry that nothing inherits.
@@ -225,7 +229,7 @@ fn the_default_list_serves_every_object() {
     assert_done(&mut tree, set_list(0, PLAIN), 28, 1, 1);
     assert_list(&tree, 1, ROOTS);
     let other_owner = PARENT.replace("00 03 00 00 00 00", "00 05 13 00 00 00");
-    let mapped = other_owner.replace("00 00 00 80", "89 00 12 80");
+    let mapped = other_owner.replace("00 00 00 80", "89 00 12 00");
     assert_done(
         &mut tree,
         set_owner(1, "01 01 000000000005 13000000", SYSTEM),
@@ -236,9 +240,55 @@ fn the_default_list_serves_every_object() {
     assert_list(&tree, 1, &mapped);
 }
 
+/// The root's own list grants 10000000 to S-1-5-18, and to all below.
+#[test]
+fn full_control_comes_down() {
+    let granted = PARENT
+        .replace("00 00 00 80", "00 00 00 10")
+        .replace("00 03 00 00 00 00", "00 05 12 00 00 00");
+    for (rule, mask) in [(1, "00 00 00 10"), (2, "FF 01 1F 00")] {
+        let mut tree = started(&Start {
+            rule,
+            ..start(4, 4)
+        });
+        tree.change(&root(&granted)).unwrap();
+        tree.change(&add(0, CONTAINER, "")).unwrap();
+        tree.change(&add(1, CONTAINER, "")).unwrap();
+        let roots = granted.replace("00 00 00 10", mask);
+        assert_list(&tree, 0, &roots);
+        let below = K1.replace("89 00 12 00", mask);
+        assert_list(&tree, 1, &below);
+        assert_list(&tree, 2, &below);
+    }
+}
+
+/// By rule 1 a generic bit that a mapping brought in joins its own mapping one
+/// level below; by rule 2 it is gone by then.
+#[test]
+fn generic_bits_brought_in_reach_no_level_below_by_rule_2() {
+    let masks = [
+        (1, ["01 00 00 C0", "03 00 00 C0"]),
+        (2, ["01 00 00 00", "01 00 00 00"]),
+    ];
+    for (rule, [roots, below]) in masks {
+        let mut tree = started(&Start {
+            rule,
+            mapping: [0x4000_0001, 2, 4, 8],
+            ..start(4, 4)
+        });
+        tree.change(&root(PARENT)).unwrap();
+        tree.change(&add(0, CONTAINER, "")).unwrap();
+        assert_list(&tree, 0, &ROOTS.replace("89 00 12 00", roots));
+        assert_list(&tree, 1, &K1.replace("89 00 12 00", below));
+    }
+}
+
 #[test]
 fn marks_and_rules() {
-    for (rule, marked, not_marked) in [(1, (8, 0), (48, 2)), (2, (28, 1), (68, 3))] {
+    for (rule, marked, not_marked, k1) in [
+        (1, (8, 0), (48, 2), K1_BY_RULE_1),
+        (2, (28, 1), (68, 3), K1),
+    ] {
         let mut tree = started(&Start {
             rule,
             ..start(2, 9)
@@ -253,7 +303,7 @@ fn marks_and_rules() {
         // Without an own list the mark changes nothing.
         assert_done(&mut tree, remove_list(1), 48, 1, 2);
         assert_done(&mut tree, set_mark(1, 1), 48, 1, 2);
-        assert_list(&tree, 1, K1);
+        assert_list(&tree, 1, k1);
     }
 }
 

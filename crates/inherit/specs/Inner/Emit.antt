@@ -15,7 +15,7 @@ use Rattle.inherit.specs.declared.copies.Terms.{Terms}
 use Rattle.inherit.specs.declared.passes.Measure.{Measure}
 use Rattle.inherit.specs.Asked.{Given}
 use Rattle.inherit.specs.Copies.{keptFlags, takesFirst, takesSecond, takesOwn}
-use Rattle.inherit.specs.Last.{inPlace, mapped, resolved}
+use Rattle.inherit.specs.Last.{inPlace, lastMask, resolved}
 use Rattle.inherit.specs.Compute.{anyObject}
 
 -- what the code is given, as the definitions have it
@@ -54,7 +54,7 @@ copyOf g flags t =
     (record {
       kind = kindOf t;
       flags = flags;
-      mask = mapped (g .mapping) (maskOf t);
+      mask = lastMask (g .rule) (g .mapping) (maskOf t);
       middle = middleOf t;
       sid = putIn t (g .owner) (g .group);
       tail = tailOf t;

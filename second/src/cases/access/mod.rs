@@ -2,6 +2,7 @@
 
 mod bad_held;
 mod bits;
+mod computed;
 mod easy;
 pub mod fresh;
 mod held;
@@ -41,6 +42,7 @@ fn questions(random: &mut Random) -> Vec<Question> {
     questions.extend(spare::questions(random));
     questions.extend(long::questions());
     questions.extend(fresh::questions(random));
+    questions.extend(computed::questions());
     questions
 }
 

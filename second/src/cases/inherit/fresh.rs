@@ -3,6 +3,7 @@
 
 use super::fitting;
 use super::ways::DOCUMENT_MAPPING;
+use crate::ace::GENERIC;
 use crate::cases::build::{
     EntryPlan, MOST_NUMBERS, creator_sid, good_list, list_of_plans, nt_sid, of_creator_authority,
     random_guid,
@@ -163,6 +164,34 @@ pub fn mapping(random: &mut Random) -> [u32; 4] {
         2 => [0; 4].map(|_: u32| random.word() & 0x0FFF_FFFF),
         _ => [0; 4].map(|_: u32| 1 << random.below(32)),
     }
+}
+
+/// Few bits, with generic ones in most: 10000000 more often than the others.
+pub fn generic_mask(random: &mut Random) -> u32 {
+    let generic = match random.below(4) {
+        0 => 0x1000_0000,
+        1 => 0x1000_0000 << random.below(4),
+        _ => random.word() & GENERIC,
+    };
+    let others = match random.below(3) {
+        0 => 0,
+        1 => 1 << random.below(28),
+        _ => random.word() & random.word() & !GENERIC,
+    };
+    generic | others
+}
+
+/// Few bits each, so that it can be told which of them joined; as often as not
+/// with generic bits that are brought in.
+pub fn telling_mapping(random: &mut Random) -> [u32; 4] {
+    [0; 4].map(|_: u32| {
+        let own = 1 << random.below(28) | 1 << random.below(28);
+        match random.below(4) {
+            0 => own | 0x1000_0000,
+            1 => own | random.word() & GENERIC,
+            _ => own,
+        }
+    })
 }
 
 pub fn ordinary_sid(random: &mut Random) -> Vec<u8> {

@@ -25,8 +25,8 @@ const MAPPINGS: [[u32; 4]; 11] = [
 const OTHER_BITS: [u32; 4] = [0, 0x0800_0000, 0x0FFF_FFFF, 0x0000_0100];
 
 pub fn cases() -> Vec<Case> {
-    let mut requests = one_by_one();
-    requests.extend(all_bits_at_once());
+    let mut requests = one_by_one(0);
+    requests.extend(all_bits_at_once(0));
     requests.extend(in_one_list());
     all_fitting(requests)
 }
@@ -38,14 +38,15 @@ fn with_mask(mask: u32) -> EntryPlan {
     }
 }
 
-fn one_by_one() -> Vec<Request> {
+/// The rules in turn, beginning with that of `first_turn`.
+pub fn one_by_one(first_turn: usize) -> Vec<Request> {
     let mut requests = Vec::new();
     for (turn, mapping) in MAPPINGS.into_iter().enumerate() {
         for generic in 0..16 {
             let place = generic as usize + turn;
             let mask = generic << 28 | OTHER_BITS[place % OTHER_BITS.len()];
             let way = [Way::ParentAlone, Way::OwnAlone, Way::DefaultList][place % 3];
-            let request = way.request(good_list(&[with_mask(mask)]), turn);
+            let request = way.request(good_list(&[with_mask(mask)]), turn + first_turn);
             requests.push(Request { mapping, ..request });
         }
     }
@@ -53,12 +54,12 @@ fn one_by_one() -> Vec<Request> {
 }
 
 /// Each single bit of the mask, in one list.
-fn all_bits_at_once() -> Vec<Request> {
+pub fn all_bits_at_once(turn: usize) -> Vec<Request> {
     let plans: Vec<EntryPlan> = (0..32).map(|bit| with_mask(1 << bit)).collect();
     [DOCUMENT_MAPPING, [1, 2, 4, 8], MAPPINGS[10]]
         .map(|mapping| Request {
             mapping,
-            ..Way::ParentAlone.request(good_list(&plans), 0)
+            ..Way::ParentAlone.request(good_list(&plans), turn)
         })
         .to_vec()
 }

@@ -5,6 +5,7 @@ pub(super) mod crossing;
 pub(super) mod fresh;
 mod limits;
 pub mod make;
+mod mending;
 mod orders;
 pub mod palette;
 mod read_backs;
@@ -41,6 +42,7 @@ pub fn sequences() -> Vec<Vec<Call>> {
     all.extend(read_backs::sequences());
     all.extend(fresh::sequences(&mut random));
     all.extend(spare::sequences(&mut random));
+    all.extend(mending::sequences());
     all
 }
 

@@ -7,7 +7,9 @@ use crate::cases::build::{
     EntryPlan, creator_sid, good_list, hiding_some, list_of_plans, nt_sid, of_creator_authority,
     random_spare, with_spare,
 };
-use crate::cases::inherit::fresh::{mapping, not_looked_at, ordinary_sid, related_guids};
+use crate::cases::inherit::fresh::{
+    generic_mask, mapping, not_looked_at, ordinary_sid, related_guids, telling_mapping,
+};
 use crate::list::{Guid, HEADER_LENGTH};
 use crate::random::Random;
 use crate::tree::{Add, Change, LONGEST_LIST, NO_PARENT, Object, Start, traits};
@@ -22,6 +24,8 @@ pub struct Palette {
     heavy: bool,
     /// Every other list has spare bytes.
     roomy: bool,
+    /// Masks ask for generic bits, and mappings bring some in.
+    generic: bool,
 }
 
 impl Palette {
@@ -44,12 +48,20 @@ impl Palette {
             with_objects: random.chance(1, 3),
             heavy,
             roomy: false,
+            generic: false,
         }
     }
 
     pub fn with_spare_bytes(self) -> Palette {
         Palette {
             roomy: true,
+            ..self
+        }
+    }
+
+    pub fn with_generic_bits(self) -> Palette {
+        Palette {
+            generic: true,
             ..self
         }
     }
@@ -73,6 +85,9 @@ impl Palette {
             if random.chance(7, 8) {
                 *guid = *random.pick(&self.guids);
             }
+        }
+        if self.generic {
+            plan.mask = generic_mask(random);
         }
         plan
     }
@@ -139,7 +154,10 @@ impl Palette {
         }
         Start {
             rule: if random.chance(1, 4) { 1 } else { 2 },
-            mapping: mapping(random),
+            mapping: match self.generic {
+                true => telling_mapping(random),
+                false => mapping(random),
+            },
             has_default: yes_or_no(random, has_default),
             default_list,
             ..start(objects, steps)

@@ -56,8 +56,8 @@ returns c =
 new-flags-requires : tie.Need-new-flags-requires
 new-flags-requires c κs = search needs
 
-mapped-requires : tie.Need-mapped-requires
-mapped-requires c κs = search needs
+last-mask-requires : tie.Need-last-mask-requires
+last-mask-requires c κs = search needs
 
 add-put-copy : tie.Need-add-put-copy
 add-put-copy c = omega (arith, lies-here (c .before .before .before .before .before .before .before))
@@ -84,7 +84,7 @@ returns-2 c =
     let n = length-one (a .rev) (bytes k) (s .pre .0 .0) (fields k) q (given k) (a .pass) (taken e) in
     let o = writes-one (a .rev) (bytes k) (s .pre .0 .0) (fields k) q (given k) (a .pass) (taken e) in
     let m = c .before .before .before .before .before in
-    let z = rw (m .before .new-flags .ensures, m .mapped .ensures) at (w .1) in
+    let z = rw (m .before .new-flags .ensures, m .last-mask .ensures) at (w .1) in
     (ap (λ (x : Entry). x .size) q, w .0 ∙ sym n, z ∙ ap (λ (x : List ℕ). front x (now (a .out))) (sym o))
 
 pub write-one-spec : {M : Type 1} → statement M
@@ -94,7 +94,7 @@ write-one-spec =
     pick-requires
     returns
     new-flags-requires
-    mapped-requires
+    last-mask-requires
     add-put-copy
     put-copy-requires
     same-length
