@@ -91,15 +91,17 @@ void pt_step(const uint8_t *list, size_t list_len, uint32_t place, uint32_t entr
  * has the bit is an allow. An object entry counts only without an ObjectType, or with one that is type. A bit that no entry speaks
  * of is a no; an absent list, or a wanted mask of 0, is a yes. SIDs are compared byte for byte, placeholders like any other. Not
  * looked at: other flags than inherit only, an InheritedObjectType, spare bytes. Nothing is mapped: a generic bit in an entry's
- * mask says nothing about other bits. Tests in order: wanted 14, the list 1 to 5 (list 0, with the offset), held 6, then 7, all
- * before the yes of an absent list or of nothing wanted. */
+ * mask says nothing about other bits (a list computed under rule 2 has none). Tests in order: wanted 14, the list 1 to 5 (list 0,
+ * with the offset), held 6, then 7, all before the yes of an absent list or of nothing wanted. */
 void pt_may_open(uint32_t has_list, const uint8_t *list, size_t list_len, const uint8_t type[16],
                  const uint8_t *held, size_t held_len, uint32_t wanted, uint32_t answer[8]);
 
-/* Computes the list of a new object by MS-DTYP under rule 1 (the printed text) or 2 (what the library runs), onto the
- * front of out; bytes past the result stay as they were. mapping: read, write, execute, all. What is passed for a
- * list that isn't present is not looked at. Tests in order: rule 12, parent, creator and default 1 to 5 (lists 1, 2, 3),
- * owner and group 6, types 7, room 8. Refused, or where the result is an absent list, no byte of out changes. */
+/* Computes the list of a new object by MS-DTYP under rule 1 (the printed text) or 2 (what the library runs), onto the front of out;
+ * bytes past the result stay as they were. mapping: read, write, execute, all, each joined to an entry's mask where that has
+ * 80000000, 40000000, 20000000, 10000000. Under rule 2 these four bits are cleared then, those too that a mapping brought in; under
+ * rule 1 they stay, and 10000000 joins nothing. What is passed for a list that isn't present is not looked at. Tests in order: rule
+ * 12, parent, creator and default 1 to 5 (lists 1, 2, 3), owner and group 6, types 7, room 8. Refused, or where the result is
+ * absent, no byte of out changes. */
 void pt_compute(uint32_t rule, uint32_t settings, const uint32_t mapping[4],
                 const uint8_t *parent, size_t parent_len, const uint8_t *creator, size_t creator_len,
                 const uint8_t *default_, size_t default_len, const uint8_t *types, size_t types_len,

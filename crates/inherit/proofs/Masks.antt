@@ -1,6 +1,6 @@
 -- Masks that the last step mends: below the generic bits, with the bits of the "all" mapping where 10000000 came, and as they are when they come again.
-use mathlib.Core.Path.{_≡_, refl, ap, ap₂, _∙_}
-use mathlib.Core.Bool.{Bool, true, false, cond, _&&_, _||_}
+use mathlib.Core.Path.{_≡_, ap, _∙_}
+use mathlib.Core.Bool.{Bool, true, false, cond, or-true}
 use Prim.Native.Nat.{ℕ, _^_, _<_}
 use native.Mathlib.Omega.{arith}
 use lib.Bits.{bitAnd, bitOr, and-le-r, and-mask}
@@ -15,20 +15,17 @@ pub mended-low : (m : Mapping) (x : ℕ) → mended m x < 2 ^ 28
 unfolding mended
 mended-low m x = omega (arith, and-le-r (joined 0x10000000 x (mapped m x) (m .all)) 0x0FFFFFFF)
 
+-- it is what the last step leaves under a rule that mends
 pub last-mended : (rule : ℕ) (m : Mapping) (x : ℕ) → mends rule ≡ true → lastMask rule m x ≡ mended m x
 unfolding lastMask
 last-mended rule m x h = rw h
 
 -- where 10000000 came, a bit of the "all" mapping that isn't generic is there
-pub mended-has : (m : Mapping) (x k : ℕ) → has 0x10000000 x ≡ true → has (2 ^ k) (m .all) ≡ true → has (2 ^ k) 0x0FFFFFFF ≡ true → has (2 ^ k) (mended m x) ≡ true
+pub mended-has : (m : Mapping) (x k : ℕ) → has 0x10000000 x ≡ true → has (2 ^ k) (m .all) ≡ true → has (2 ^ k) 0x0FFFFFFF ≡ true
+    → has (2 ^ k) (mended m x) ≡ true
 unfolding mended
 mended-has m x k h a n =
-    has-and k (joined 0x10000000 x (mapped m x) (m .all)) 0x0FFFFFFF
-    ∙ ap₂ (λ (p q : Bool). p && q) (ap (λ (b : Bool). has (2 ^ k) (cond b (bitOr (mapped m x) (m .all)) (mapped m x))) h ∙ has-or k (mapped m x) (m .all) ∙ ap (λ (b : Bool). has (2 ^ k) (mapped m x) || b) a ∙ or-true (has (2 ^ k) (mapped m x))) n
-  where
-    or-true : (b : Bool) → (b || true) ≡ true
-    or-true true = refl
-    or-true false = refl
+    has-and k (joined 0x10000000 x (mapped m x) (m .all)) 0x0FFFFFFF ∙ rw (h, has-or k (mapped m x) (m .all), a, or-true (has (2 ^ k) (mapped m x)), n)
 
 -- a mask below the generic bits goes through unchanged, under any rule and any mapping
 module _ (m : Mapping) (x : ℕ) (l : x < 2 ^ 28) where

@@ -4,7 +4,7 @@ use mathlib.Core.Bool.{true, false}
 use mathlib.Core.List.{List, [], _∷_}
 use mathlib.Core.Logic.{inl, inr}
 use mathlib.Core.Option.{none, some}
-use Prim.Native.Nat.{ℕ, _^_, _<_}
+use Prim.Native.Nat.{ℕ}
 use native.Mathlib.Omega.{arith}
 use lib.ListN.{set}
 use Rattle.list.specs.Bytes.{has}
@@ -20,7 +20,7 @@ use Rattle.inherit.specs.Copies.{anyHeritable}
 use Rattle.inherit.specs.Last.{inPlace, mends, mended, lastMask, resolved, lastOf, lastStep}
 use Rattle.inherit.specs.Branch.{holds, fromDefault, resultOf}
 use Rattle.inherit.specs.Compute.{computeOf, bytesFor}
-use Rattle.inherit.specs.Said.{Stands, Copied}
+use Rattle.inherit.specs.Said.{Low, Stands, Copied}
 use Rattle.inherit.proofs.Masks.{last-same}
 use Rattle.inherit.proofs.Emits.{resolved-set}
 use Rattle.inherit.proofs.Results.{copy-kind, copy-flags, copy-word, copy-sid, copy-mask, planned-low, planned-again}
@@ -36,7 +36,7 @@ two-mends e = rw e
 
 module _ (a : Asked) (room : ℕ) (r : a .rule ≡ 2) (h : computeOf a room .present ≡ 1) where
   -- its masks are below the generic bits
-  pub computed-low : Every (λ e. maskOf e < 2 ^ 28) (entriesOf (bytesFor (resultOf access a)))
+  pub computed-low : Every Low (entriesOf (bytesFor (resultOf access a)))
   computed-low = let m = made a room h in computed-every a room h _ (planned-low (givenIn a) (m .owner .0) (m .group .0) (two-mends r) _)
 
   -- so none has one of them

@@ -3,7 +3,7 @@ use mathlib.Core.Path.{_≡_, refl, ap, ap₂, _∙_}
 use mathlib.Core.Bool.{Bool, true, false, not, cond, _&&_}
 use mathlib.Core.List.{List, [], _∷_, _++_}
 use mathlib.Core.Option.{none, some}
-use Prim.Native.Nat.{ℕ, _^_, _<_}
+use Prim.Native.Nat.{ℕ}
 use lib.ListN.{length, set}
 use lib.Dec.{eqb}
 use Rattle.list.specs.Entry.{Family, access, flagsOf, maskOf}
@@ -18,17 +18,15 @@ use Rattle.inherit.specs.Copies.{anyHeritable, typeApplies, pass, takesF
 use Rattle.inherit.specs.Last.{resolved, lastOf, lastStep}
 use Rattle.inherit.specs.Branch.{Result, holds, inheritedBit, withCreator, fromDefault, branch, resultOf}
 use Rattle.inherit.specs.Compute.{computeOf, bytesFor, written, outOf}
-use Rattle.inherit.specs.Said.{withMapping}
+use Rattle.inherit.specs.Said.{Low, withMapping}
 use Rattle.inherit.proofs.Masks.{last-same}
-
-abbrev Low : List ℕ → Type 0
-Low e = maskOf e < 2 ^ 28
 
 -- the same terms with another mapping
 abbrev remapped : Given → Mapping → Given
 remapped g m = record { rule = g .rule; container = g .container; mapping = m; types = g .types; owner = g .owner; group = g .group }
 
 module _ (g : Given) (m : Mapping) where
+  -- the last step over such entries
   resolved-low : (e : List ℕ) → Low e → resolved (remapped g m) e ≡ resolved g e
   unfolding resolved
   resolved-low e l = rw (last-same m (maskOf e) l (g .rule), last-same (g .mapping) (maskOf e) l (g .rule))

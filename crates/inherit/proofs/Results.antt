@@ -19,6 +19,7 @@ use Rattle.inherit.specs.declared.copies.Pass.the-variants.{First, Secon
 use Rattle.inherit.specs.Asked.{Given}
 use Rattle.inherit.specs.Last.{inPlace, mends, mended, lastMask, resolved}
 use Rattle.inherit.specs.Compute.{anyObject, revFor}
+use Rattle.inherit.specs.Said.{Low}
 use Rattle.inherit.specs.Inner.Emit.{takesBy, flagsBy, copyOf, emitOf, emitAll}
 use Rattle.inherit.specs.Inner.Plan.{planned}
 use Rattle.inherit.proofs.Flags.{by-le}
@@ -93,7 +94,7 @@ module _ (g : Given) (o : isSid (g .owner) ≡ true) (r : isSid (g .group) ≡ t
     pub copy-mask : maskOf (copyOf g flags e) ≡ mended (g .mapping) (maskOf e)
     copy-mask = mask-is ∙ last-mended (g .rule) (g .mapping) (maskOf e) m
 
-    pub copy-low : maskOf (copyOf g flags e) < 2 ^ 28
+    pub copy-low : Low (copyOf g flags e)
     copy-low = rw mask-is mask-low
 
     -- another last step, under any rule, leaves the copy as it is
@@ -132,7 +133,7 @@ module _ (g : Given) (o : isSid (g .owner) ≡ true) (r : isSid (g .group) ≡ t
       every-given _ (rw (copy-sid g o r rev e w (flagsBy p (flagsOf e)) known) (in-place-ordinary (sidOf e) (g .owner) (g .group) po pr))
 
   -- under a rule that mends, each with a mask below the generic bits
-  pub emit-low : mends (g .rule) ≡ true → Every (λ x. maskOf x < 2 ^ 28) (emitOf g p e)
+  pub emit-low : mends (g .rule) ≡ true → Every Low (emitOf g p e)
   emit-low m = every-given _ (copy-low g o r rev e w (flagsBy p (flagsOf e)) known m)
 
   -- that no other last step changes
@@ -200,7 +201,7 @@ module _ (g : Given) (o : isSid (g .owner) ≡ true) (r : isSid (g .group) ≡ t
   module _ (m : mends (g .rule) ≡ true) where
     pub planned-low : (q : Plan) (ps cs ds : List (List ℕ)) (rp rc rd : ℕ)
         → Every (Whole access rp) ps → Every (Whole access rc) cs → Every (Whole access rd) ds
-        → Every (λ x. maskOf x < 2 ^ 28) (planned g q ps cs ds)
+        → Every Low (planned g q ps cs ds)
     planned-low = every-planned g _ (λ p rev e w. emit-low g o r p rev e w m)
 
     pub planned-again : placeholderOf (g .owner) ≡ 0 → placeholderOf (g .group) ≡ 0

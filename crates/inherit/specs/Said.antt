@@ -4,8 +4,8 @@ use mathlib.Core.Bool.{true, false}
 use mathlib.Core.List.{List, _∷_, _++_}
 use mathlib.Core.Logic.{_⊎_}
 use mathlib.Core.Option.{none}
-use Prim.Native.Nat.{ℕ}
-use Rattle.list.specs.Entry.{flagsOf}
+use Prim.Native.Nat.{ℕ, _^_, _<_}
+use Rattle.list.specs.Entry.{flagsOf, maskOf}
 use Rattle.inherit.specs.declared.Mapping.{Mapping}
 use Rattle.inherit.specs.Asked.{Asked, givenIn, entriesIf}
 use Rattle.inherit.specs.Copies.{anyHeritable, takesFirst, takesOwn}
@@ -28,6 +28,10 @@ withMapping a m =
       default-descriptor = a .default-descriptor;
       protected = a .protected;
     }
+
+-- an entry's mask is below the generic bits
+abbrev pub Low : List ℕ → Type 0
+Low e = maskOf e < 2 ^ 28
 
 -- an entry stands among others
 pub record Stands (e : List ℕ) (es : List (List ℕ)) : Type 0 where

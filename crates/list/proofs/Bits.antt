@@ -8,7 +8,7 @@ use native.Mathlib.Omega.{arith}
 use lib.Dec.{eqb}
 use lib.Bits.{bitAnd, bitOr, bitXor, and-high, and-shr, or-shr, xor-shr, and-mod, or-mod, xor-mod, and-le-r, or-add-and}
 use lib.Pow.{pow-pos, pow-add, mod-pow-add}
-use borrow.Author.Tests.{ne-eqb, eqb-true, not-false}
+use borrow.Author.Tests.{ne-eqb, eqb-true}
 use Rattle.list.specs.Bytes.{has}
 use Rattle.list.proofs.Tests.{off}
 
@@ -131,9 +131,6 @@ generic-or a b =
     by zero y = refl
     by (suc x) y = rw (ne-eqb (bitOr (suc x) y) 0 (λ e. omega (arith, or-add-and (suc x) y, and-le-r (suc x) y)), ne-eqb (suc x) 0 (λ e. omega arith))
 
--- a number below them has none of them, and a mask that has none is below them
+-- a number below them has none of them
 pub below-generic : (n : ℕ) → n < 2 ^ 28 → has 0xF0000000 n ≡ false
 below-generic n l = generic-is n ∙ ap (λ (x : ℕ). not (eqb (x % 2 ^ 4) 0)) (div-eq-of-lt l)
-
-pub generic-below : (n : ℕ) → n < 2 ^ 32 → has 0xF0000000 n ≡ false → n < 2 ^ 28
-generic-below n l h = omega (arith, eqb-true (generic n) 0 (not-false (eqb (generic n) 0) (sym (generic-is n) ∙ h)))
