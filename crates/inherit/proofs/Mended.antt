@@ -20,7 +20,7 @@ use Rattle.inherit.specs.Copies.{anyHeritable}
 use Rattle.inherit.specs.Last.{inPlace, mends, mended, lastMask, resolved, lastOf, lastStep}
 use Rattle.inherit.specs.Branch.{holds, fromDefault, resultOf}
 use Rattle.inherit.specs.Compute.{computeOf, bytesFor}
-use Rattle.inherit.specs.Said.{Low, Stands, Copied}
+use Rattle.inherit.specs.Said.{Low, NoGeneric, Stands, Copied}
 use Rattle.inherit.proofs.Masks.{last-same}
 use Rattle.inherit.proofs.Emits.{resolved-set}
 use Rattle.inherit.proofs.Results.{copy-kind, copy-flags, copy-word, copy-sid, copy-mask, planned-low, planned-again}
@@ -40,7 +40,7 @@ module _ (a : Asked) (room : ℕ) (r : a .rule ≡ 2) (h : computeOf a room .pre
   computed-low = let m = made a room h in computed-every a room h _ (planned-low (givenIn a) (m .owner .0) (m .group .0) (two-mends r) _)
 
   -- so none has one of them
-  pub no-generic : Every (λ e. has 0xF0000000 (maskOf e) ≡ false) (entriesOf (bytesFor (resultOf access a)))
+  pub no-generic : NoGeneric (some (bytesFor (resultOf access a)))
   no-generic = every-to _ _ (λ e l. below-generic (maskOf e) l) (entriesOf (bytesFor (resultOf access a))) computed-low
 
   -- a further last step, under any rule and with any mapping, changes no mask

@@ -3,9 +3,12 @@ use mathlib.Core.Path.{_≡_}
 use mathlib.Core.Bool.{true, false}
 use mathlib.Core.List.{List, _∷_, _++_}
 use mathlib.Core.Logic.{_⊎_}
-use mathlib.Core.Option.{none}
+use mathlib.Core.Option.{none, some}
 use Prim.Native.Nat.{ℕ, _^_, _<_}
+use Rattle.list.specs.Bytes.{has}
 use Rattle.list.specs.Entry.{flagsOf, maskOf}
+use Rattle.list.specs.List.{entriesOf, MaybeList}
+use Rattle.list.specs.Good.{Every}
 use Rattle.inherit.specs.declared.Mapping.{Mapping}
 use Rattle.inherit.specs.Asked.{Asked, givenIn, entriesIf}
 use Rattle.inherit.specs.Copies.{anyHeritable, takesFirst, takesOwn}
@@ -32,6 +35,11 @@ withMapping a m =
 -- an entry's mask is below the generic bits
 abbrev pub Low : List ℕ → Type 0
 Low e = maskOf e < 2 ^ 28
+
+-- no mask of a list, where there is one, has a generic bit
+abbrev pub NoGeneric : MaybeList → Type 0
+NoGeneric none = Unit
+NoGeneric (some s) = Every (λ e. has 0xF0000000 (maskOf e) ≡ false) (entriesOf s)
 
 -- an entry stands among others
 pub record Stands (e : List ℕ) (es : List (List ℕ)) : Type 0 where

@@ -23,7 +23,9 @@ use Rattle.inherit.specs.Branch.{Result, absent, holds, resultOf}
 use Rattle.inherit.specs.Compute.{ruleOk, sizeFor, fits, withRoom, computeOf, bytesFor}
 use Rattle.inherit.proofs.Theorems.{Passed, passed-room, present-fits, computes, listed-source, absent-source}
 use Rattle.inherit.specs.Spare.{NoSpare}
+use Rattle.inherit.specs.Said.{NoGeneric}
 use Rattle.inherit.proofs.Spare.{computed-end}
+use Rattle.inherit.proofs.Mended.{no-generic}
 use Rattle.tree.specs.Model.{shortIf}
 use Rattle.tree.specs.Held.{held, slotFor, slotOk, isDone, typeOf, ownSlot, ownList, blockOk}
 use Rattle.tree.specs.Room.{ruleOf, defaultOf}
@@ -69,6 +71,11 @@ module _ (e : List ℕ) (p : MaybeList) (b : List ℕ) where
     pub computed-exact : NoSpare o
     unfolding computed
     computed-exact = of-computed NoSpare tt (computed-end (askedIn e p b) 1024) o _ _ refl refl h
+
+    -- under rule 2 no mask of it has a generic bit
+    pub computed-mended : ruleOf e ≡ 2 → NoGeneric o
+    unfolding computed
+    computed-mended r = of-computed NoGeneric tt (no-generic (askedIn e p b) 1024 r) o _ _ refl refl h
 
     pub computed-short : shortIf o ≡ true
     computed-short = computed-good .0

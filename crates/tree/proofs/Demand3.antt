@@ -4,27 +4,24 @@ use mathlib.Core.Path.{_≡_, refl, sym, ap, _∙_, subst}
 use mathlib.Core.Bool.{Bool, true, false, cond, _&&_}
 use mathlib.Core.List.{List, [], _∷_, map}
 use mathlib.Core.Option.{Option, none, some}
-use Prim.Native.Nat.{ℕ, zero, suc, _≤_, _<_}
+use Prim.Native.Nat.{ℕ, zero, suc, _<_}
 use native.Mathlib.Omega.{arith}
 use lib.ListN.{length}
-use lib.Dec.{eqb, leb}
+use lib.Dec.{leb}
 use Rattle.list.specs.List.{MaybeList}
 use Rattle.list.specs.Order.{need}
-use Rattle.list.specs.Bytes.{front}
 use Rattle.list.specs.Answer.{Values, done, refused}
-use Rattle.list.proofs.Tests.{both-true, off}
 use Rattle.inherit.specs.Spare.{NoSpare}
-use Rattle.inherit.specs.Compute.{ruleOk}
+use Rattle.inherit.specs.Said.{NoGeneric}
 use Rattle.tree.specs.Model.{Settings, shortIf, limitsOk}
-use Rattle.tree.specs.declared.Answer.{Answer}
-use Rattle.tree.specs.declared.Answer.the-variants.{Done, Refused}
-use Rattle.tree.specs.General.{isSome, rest, bind}
+use Rattle.tree.specs.General.{isSome, bind}
 use Rattle.tree.specs.Held.{held}
-use Rattle.tree.specs.Room.{objectLimit, stepLimit, objects, keptSteps, roomFor, settings, settingsFor, slot, emptyRoom}
+use Rattle.tree.specs.Room.{objects, keptSteps, roomFor, settings, slot}
 use Rattle.tree.specs.Formed.{formed}
+use Rattle.tree.specs.Work.{computed}
 use Rattle.tree.specs.Calls.{Outcome, refuse, startOk, startTo, undoTo, answerValues, countsTo, ChangeGiven, add, alter}
 use Rattle.tree.proofs.History.{Call as Step, edit, undo as take-back, Past, remains, next, noted, unnoted, accepts, afresh}
-use Rattle.tree.proofs.Replay.{reads, rules, work, shown}
+use Rattle.tree.proofs.Replay.{rules, work, shown}
 use Rattle.tree.proofs.Played.{callTo, accepted, played}
 use Rattle.tree.specs.Model as Model
 use Rattle.tree.specs.Shown.{settingsIn, settingsFrom, objectsIn, changeMeant, Request, start, change, undo, read, counts, meant, changeWith, readWith, callOn, answerTo, playedOn}
@@ -32,10 +29,11 @@ use Rattle.tree.proofs.Tab.{getD-tab}
 use Rattle.tree.proofs.Settings.{rule-of, mapping-of, default-of}
 use Rattle.tree.proofs.Keeps.{Formed, formed-facts}
 use Rattle.tree.proofs.Answered.{start-facts}
-use Rattle.tree.proofs.Plays.{Passes, on, stop, then, need-first, reads-first, call-ends}
+use Rattle.tree.proofs.Plays.{on, call-ends}
 use Rattle.tree.proofs.Reaches.{settingsBytes, Reached, Begun, begun, start-stays, reaches, keeps}
-use Rattle.tree.proofs.Likeness.{rest-map, Good, objectsFrom, replay-like, lists-exact}
-use Rattle.tree.proofs.Modelled.{said, settings-facts, readable-as, test-as, short-is, objects-shown, shown-length, objects-length, lists-like, change-as}
+use Rattle.tree.proofs.Computed.{computed-exact, computed-mended}
+use Rattle.tree.proofs.Likeness.{rest-map, Good, objectsFrom, replay-like, lists-computed}
+use Rattle.tree.proofs.Modelled.{said, settings-facts, readable-as, test-as, short-is, objects-shown, shown-length, lists-like, change-as}
 use Rattle.tree.proofs.Reading.{ReadAs, part-as, counts-as}
 use Rattle.tree.proofs.Numbers.{accepted-number, change-numbered, undo-numbered, start-numbered}
 
@@ -66,9 +64,11 @@ pub record Shows (long : ℕ) (r : List ℕ) (s : Model.Tree) : Type 0 where
   pub well : formed r ≡ true
   pub settings-are : settingsIn r ≡ s .settings
   pub objects-are : objectsIn r ≡ Model.objectsOf s
-  -- each computed list in it is the one that following parents up to the root gives, and has no spare bytes; as many steps are kept
+  -- each computed list in it is the one that following parents up to the root gives, has no spare bytes and, under rule 2, no generic bit in its masks; as
+  -- many steps are kept
   pub lists-are : (i : ℕ) → i < objects r → Model.listOf (s .settings) (Model.objectsOf s) i ≡ some (held (slot i r))
   pub exact : (i : ℕ) → i < objects r → NoSpare (held (slot i r))
+  pub mended-masks : s .settings .rule ≡ 2 → (i : ℕ) → i < objects r → NoGeneric (held (slot i r))
   pub kept-are : keptSteps r ≡ s .kept
   -- each call answers the model's number and values; one that is refused leaves every byte of the room; what is read back is the model's
   pub answers : (q : Request) → answerTo q r ≡ Model.answer s (meant long q)
@@ -139,12 +139,15 @@ module _ (b : Settings) (r : List ℕ) (h : accepted (startTo b r .answer) ≡ t
       (omega (arith, k, shown-length (room qs)))
       ∙ ap some (getD-tab (objects (room qs)) (λ j. held (slot j (room qs))) i none k))
 
-  exact-as : (qs : List (Step ChangeGiven)) (i : ℕ) → i < objects (room qs) → NoSpare (held (slot i (room qs)))
+  -- what holds of each computed list holds of those in the room
+  each-as : (qs : List (Step ChangeGiven)) (P : MaybeList → Type 0)
+      → ((p : MaybeList) (x : List ℕ) (o : MaybeList) → computed (settings (room qs)) p x ≡ some o → P o)
+      → (i : ℕ) → i < objects (room qs) → P (held (slot i (room qs)))
   unfolding shown
-  exact-as qs i k =
-      subst NoSpare (getD-tab (objects (room qs)) (λ j. held (slot j (room qs))) i none k)
-      (lists-exact (b .object-limit) (b .step-limit) (settings (room qs)) (settings-facts (settings (room qs)) (F qs .settings-ok) .0)
-      (settings-facts (settings (room qs)) (F qs .settings-ok) .1) (shown (room qs) .own) (shown (room qs) .lists) (work-as qs) i
+  each-as qs P f i k =
+      subst P (getD-tab (objects (room qs)) (λ j. held (slot j (room qs))) i none k)
+      (lists-computed (b .object-limit) (b .step-limit) (settings (room qs)) (settings-facts (settings (room qs)) (F qs .settings-ok) .0)
+      (settings-facts (settings (room qs)) (F qs .settings-ok) .1) P f (shown (room qs) .own) (shown (room qs) .lists) (work-as qs) i
       (omega (arith, k, shown-length (room qs))))
 
   -- each call's answer
@@ -200,7 +203,8 @@ module _ (b : Settings) (r : List ℕ) (h : accepted (startTo b r .answer) ≡ t
         settings-are = settings-as qs;
         objects-are = objects-as qs;
         lists-are = lists-as qs;
-        exact = exact-as qs;
+        exact = each-as qs NoSpare (computed-exact (settings (room qs)));
+        mended-masks = λ two. each-as qs NoGeneric (λ p x o h. computed-mended (settings (room qs)) p x o h (ap (λ (t : Model.Settings). t .rule) (settings-as qs) ∙ two));
         kept-are = H qs .steps-left;
         answers = all-said qs;
         refused-stays = all-stays qs;

@@ -4,31 +4,29 @@ use mathlib.Core.Bool.{Bool, true, false, cond, _&&_}
 use mathlib.Core.List.{List, [], _∷_, _++_, map}
 use mathlib.Core.Logic.{_⊎_, inl, inr}
 use mathlib.Core.Option.{Option, none, some}
-use Prim.Native.Nat.{ℕ, zero, suc, _≤_, _<_, min}
+use Prim.Native.Nat.{ℕ, zero, suc, _≤_, _<_}
 use native.Mathlib.Decide.{ℕ-discrete}
 use native.Mathlib.Omega.{arith}
 use lib.ListN.{length, getD, set, length-append, length-set, List·getD-append}
 use lib.Seq.{getD-at, getD-set-same, getD-set-other}
 use lib.Dec.{eqb, ltb, leb}
-use borrow.Author.Tests.{ltb-true, ne-eqb, eqb-false, le-leb, leb-true}
+use borrow.Author.Tests.{ltb-true, eqb-false, le-leb, leb-true}
 use Rattle.list.specs.List.{MaybeList}
 use Rattle.list.specs.Bytes.{putAt}
 use Rattle.list.proofs.Places.{split}
 use Rattle.list.proofs.Tests.{both-true}
 use Rattle.list.specs.Answer.{Values, done, refused}
-use Rattle.inherit.specs.Asked.{Asked}
-use Rattle.inherit.specs.Spare.{NoSpare}
 use Rattle.inherit.specs.Branch.{Result, absent, holds, resultOf}
 use Rattle.inherit.specs.Compute.{ordinary, ruleOk, sizeFor, fits, revFor, withRoom, bytesFor}
 use Rattle.inherit.proofs.Theorems.{passed-room}
 use Rattle.list.proofs.Parts.{length-render}
 use Rattle.list.specs.Entry.{access}
-use Rattle.tree.specs.Held.{parentIn, blockFor, blockOk, parentByteIn, typeOf, ownList, yes as bit}
+use Rattle.tree.specs.Held.{parentIn, blockFor, blockOk, parentByteIn, yes as bit}
 use Rattle.tree.specs.Room.{ruleOf, defaultOf}
 use Rattle.tree.specs.Formed.{placedIn}
 use Rattle.tree.specs.Work.{askedIn, taken, computed}
-use Rattle.tree.proofs.Computed.{all-passed, computed-reads, computed-exact}
-use Rattle.tree.specs.Calls.{Edit, list, mark, owners, editAt, editBytes, nobody, objectFor, ChangeGiven, add, alter}
+use Rattle.tree.proofs.Computed.{all-passed, computed-reads}
+use Rattle.tree.specs.Calls.{Edit, list, mark, owners, editAt, editBytes, objectFor, ChangeGiven, add, alter}
 use Rattle.tree.specs.General.{bind, isSome, every, rest}
 use Rattle.tree.proofs.History.{replay}
 use Rattle.tree.proofs.Replay.{Blocks, reads, fine, when, change, rules, fromRoot, gather, work}
@@ -36,7 +34,7 @@ use Rattle.tree.proofs.Blocks.{Shows, length-guid, new-shows, new-good}
 use Rattle.tree.proofs.Edits.{edited, list-shows, mark-shows, owners-shows, edit-keeps, edit-good}
 use Rattle.tree.proofs.Paths.{Ordered, ordered-next, gather-at}
 use Rattle.tree.proofs.Turns.{Placed, placed-facts, placed-parent}
-use Rattle.tree.specs.Model.{Settings, Object, parentByte, no-object, object, asked, fitting, listBelow, above, listFrom, listOf, listed, apply, objectsAfter, withList, withMark, withOwners, shortIf}
+use Rattle.tree.specs.Model.{Settings, Object, parentByte, no-object, object, fitting, listBelow, above, listFrom, listOf, listed, apply, objectsAfter, withList, withMark, withOwners, shortIf}
 use Rattle.tree.proofs.NoRoom.{Earlier}
 use Rattle.tree.specs.Shown.{settingsAt, objectIn, alteration, changeMeant}
 
@@ -278,9 +276,11 @@ module _ (n s : ℕ) (e : List ℕ) (hr : ruleOk (ruleOf e) ≡ true) (hd : read
   from-reads : (d : Blocks) (more i : ℕ) (o : MaybeList) → fromRoot e d more i ≡ some o → reads o ≡ true
   from-reads = from-computed (λ o. reads o ≡ true) (computed-reads e)
 
-  pub lists-exact : (d : Blocks) (ls : List MaybeList) → work e d ≡ some ls → (i : ℕ) → i < length d → NoSpare (getD ls i none)
+  -- what holds of each computed list holds of all that are worked out
+  pub lists-computed : (P : MaybeList → Type 0) → ((p : MaybeList) (b : List ℕ) (o : MaybeList) → computed e p b ≡ some o → P o)
+      → (d : Blocks) (ls : List MaybeList) → work e d ≡ some ls → (i : ℕ) → i < length d → P (getD ls i none)
   unfolding work
-  lists-exact d ls h i k = from-computed NoSpare (computed-exact e) d (length d) i _ (gather-at none (length d) (fromRoot e d (length d)) ls h i k)
+  lists-computed P f d ls h i k = from-computed P f d (length d) i _ (gather-at none (length d) (fromRoot e d (length d)) ls h i k)
 
   module _ (d : Blocks) (G : Good d) where
     from-step : (more i : ℕ) → i < length d
