@@ -2,14 +2,14 @@
 use mathlib.Core.Path.{_≡_, refl, sym, ap, subst, _∙_}
 use mathlib.Core.Bool.{Bool, true, false, not, cond, _||_}
 use mathlib.Core.List.{List, [], _∷_, map}
-use mathlib.Core.Logic.{inl}
+use mathlib.Core.Logic.{inl, inr}
 use mathlib.Core.Option.{none, some}
 use Prim.Native.Nat.{ℕ, _^_, _≤_, _<_}
 use lib.ListN.{length, set, drop, replicate}
 use Rattle.list.specs.Bytes.{has, among, sameBytes, guidAt}
 use Rattle.list.specs.Identity.{placeholderOf, wholeSid}
 use Rattle.list.specs.Entry.{access, objectKind, kindOf, maskOf, wordOf, sidOf}
-use Rattle.list.specs.List.{entriesOf}
+use Rattle.list.specs.List.{MaybeList, entriesOf}
 use Rattle.list.specs.Good.{Every}
 use Rattle.list.proofs.Bits.{has-common}
 use Rattle.list.proofs.Tests.{off}
@@ -110,18 +110,19 @@ module _ (a : Asked) (room : ℕ) (r : a .rule ≡ 2) (h : computeOf a room .pre
         opened = rw asked o;
       })
 
--- ---- the ticket's folder, computed: S-1-5-18 is granted 10000000, for everything below, and a plan lies in it
+-- ---- the ticket's folder, computed: it grants S-1-5-18 10000000, for everything below too
 
 abbrev folder : List ℕ
 folder = 0x02 ∷ 0 ∷ 0x1C ∷ 0 ∷ 0x01 ∷ 0 ∷ 0 ∷ 0 ∷ 0x00 ∷ 0x03 ∷ 0x14 ∷ 0 ∷ 0 ∷ 0 ∷ 0 ∷ 0x10 ∷ system
 
-abbrev plan : ℕ → Asked
-plan rule =
+-- an object with that list for its parent's, its own or the default list
+abbrev below : ℕ → MaybeList → MaybeList → MaybeList → Asked
+below rule parent creator default =
     record {
       rule = rule;
-      parent = some folder;
-      creator = none;
-      default = none;
+      parent = parent;
+      creator = creator;
+      default = default;
       container = false;
       types = replicate 16 0;
       owner = system;
@@ -132,25 +133,43 @@ plan rule =
       protected = false;
     }
 
--- its entry is one that full control speaks of
-pub folder-grants : GrantsAll (plan 2) (drop 8 folder) 0x10
+-- a plan in the folder, the folder itself, and an object that has it by default
+abbrev plan : ℕ → Asked
+plan rule = below rule (some folder) none none
+
+abbrev itself : ℕ → Asked
+itself rule = below rule none (some folder) none
+
+abbrev by-default : ℕ → Asked
+by-default rule = below rule none none (some folder)
+
+-- of each of them full control speaks
+abbrev alone : Stands (drop 8 folder) (drop 8 folder ∷ [])
+alone = record { before = []; after = []; is = refl }
+
+pub plan-grants : GrantsAll (plan 2) (drop 8 folder) 0x10
 unfolding bytes-open entries-open lists-open copies-open isAllow
-folder-grants =
-    record {
-      copied = inl (record { stands = record { before = []; after = []; is = refl }; takes = refl; taken = inl refl; flags-are = refl });
-      here = refl;
-      allows = refl;
-      untyped = refl;
-      everything = refl;
-    }
+plan-grants =
+    record { copied = inl (record { stands = alone; takes = refl; taken = inl refl; flags-are = refl }); here = refl; allows = refl; untyped = refl; everything = refl }
+
+pub itself-grants : GrantsAll (itself 2) (drop 8 folder) 0x03
+unfolding bytes-open entries-open lists-open copies-open isAllow
+itself-grants =
+    record { copied = inr (inl (record { stands = alone; takes = refl; taken = inl refl; flags-are = refl })); here = refl; allows = refl; untyped = refl; everything = refl }
+
+pub default-grants : GrantsAll (by-default 2) (drop 8 folder) 0x03
+unfolding bytes-open entries-open lists-open copies-open isAllow
+default-grants =
+    record { copied = inr (inr (record { stands = alone; nothing = refl; alone = refl; flags-are = refl })); here = refl; allows = refl; untyped = refl; everything = refl }
 
 -- what the one who holds it may do: read, all of the "all" mapping, and what isn't in it
-abbrev opens-plan : ℕ → List Access
-opens-plan rule =
-    map (λ wanted. mayOpenOf (record { list = some (bytesFor (resultOf access (plan rule))); type = replicate 16 0; held = system; wanted = wanted }))
+abbrev may : Asked → List Access
+may a =
+    map (λ wanted. mayOpenOf (record { list = some (bytesFor (resultOf access a)); type = replicate 16 0; held = system; wanted = wanted }))
     (0x00000001 ∷ 0x001F01FF ∷ 0x00200000 ∷ [])
 
 -- under rule 2 the first two; under rule 1 nothing, as under rule 2 while the bit stood for nothing
-pub full-worked : (opens-plan 2 ≡ Yes ∷ Yes ∷ No ∷ []) × (opens-plan 1 ≡ No ∷ No ∷ No ∷ [])
+pub full-worked : (map may (plan 2 ∷ itself 2 ∷ by-default 2 ∷ []) ≡ replicate 3 (Yes ∷ Yes ∷ No ∷ []))
+    × (map may (plan 1 ∷ itself 1 ∷ by-default 1 ∷ []) ≡ replicate 3 (No ∷ No ∷ No ∷ []))
 unfolding bytes-open entries-open lists-open copies-open last-open compute-open mayOpenOf readFirst onRead opens opensBy eachBit granted entryCounts typeCounts isAllow heldOf sidsIn wholeSid
 full-worked = (refl, refl)
