@@ -20,7 +20,8 @@ use Rattle.inherit.specs.Compute.{computeOf, bytesFor}
 use Rattle.inherit.specs.Said.{Stands, Copied}
 use Rattle.inherit.proofs.Masks.{mended-has}
 use Rattle.inherit.proofs.Theorems.{computes}
-use Rattle.inherit.proofs.Mended.{Copy, copied-is}
+use Rattle.inherit.proofs.Results.{Copy}
+use Rattle.inherit.proofs.Mended.{copied-is}
 use Rattle.inherit.proofs.Worked.{mapping, system}
 use Rattle.tree.proofs.Worked.{bytes-open, entries-open, lists-open, copies-open, last-open, compute-open}
 use Rattle.access.specs.Held.{sidsIn, heldOf, toEnd}
@@ -84,7 +85,7 @@ module _ (a : Asked) (room : ℕ) (r : a .rule ≡ 2) (h : computeOf a room .pre
   abbrev copy : List ℕ
   copy = resolved (givenIn a) (set e 1 flags)
 
-  is : Copy a e flags copy
+  is : Copy (givenIn a) e flags copy
   is = copied-is a room r h e flags (grants .copied)
 
   counts : entryCounts (q .type) sids copy ≡ true
@@ -144,23 +145,24 @@ abbrev by-default : ℕ → Asked
 by-default rule = below rule none none (some folder)
 
 -- of each of them full control speaks
+folder-grants : (a : Asked) (flags : ℕ) → Copied a (drop 8 folder) flags → has 0x08 flags ≡ false → GrantsAll a (drop 8 folder) flags
+unfolding bytes-open entries-open isAllow
+folder-grants a flags c h = record { copied = c; here = h; allows = refl; untyped = refl; everything = refl }
+
 abbrev alone : Stands (drop 8 folder) (drop 8 folder ∷ [])
 alone = record { before = []; after = []; is = refl }
 
 pub plan-grants : GrantsAll (plan 2) (drop 8 folder) 0x10
-unfolding bytes-open entries-open lists-open copies-open isAllow
-plan-grants =
-    record { copied = inl (record { stands = alone; takes = refl; taken = inl refl; flags-are = refl }); here = refl; allows = refl; untyped = refl; everything = refl }
+unfolding bytes-open entries-open lists-open copies-open
+plan-grants = folder-grants (plan 2) 0x10 (inl (record { stands = alone; takes = refl; taken = inl refl; flags-are = refl })) refl
 
 pub itself-grants : GrantsAll (itself 2) (drop 8 folder) 0x03
-unfolding bytes-open entries-open lists-open copies-open isAllow
-itself-grants =
-    record { copied = inr (inl (record { stands = alone; takes = refl; taken = inl refl; flags-are = refl })); here = refl; allows = refl; untyped = refl; everything = refl }
+unfolding bytes-open entries-open lists-open copies-open
+itself-grants = folder-grants (itself 2) 0x03 (inr (inl (record { stands = alone; takes = refl; taken = inl refl; flags-are = refl }))) refl
 
 pub default-grants : GrantsAll (by-default 2) (drop 8 folder) 0x03
-unfolding bytes-open entries-open lists-open copies-open isAllow
-default-grants =
-    record { copied = inr (inr (record { stands = alone; nothing = refl; alone = refl; flags-are = refl })); here = refl; allows = refl; untyped = refl; everything = refl }
+unfolding bytes-open entries-open lists-open copies-open
+default-grants = folder-grants (by-default 2) 0x03 (inr (inr (record { stands = alone; nothing = refl; alone = refl; flags-are = refl }))) refl
 
 -- what the one who holds it may do: read, all of the "all" mapping, and what isn't in it
 abbrev may : Asked → List Access

@@ -20,6 +20,11 @@ pub last-mended : (rule : ℕ) (m : Mapping) (x : ℕ) → mends rule ≡ true �
 unfolding lastMask
 last-mended rule m x h = rw h
 
+-- and the printed text's under another
+pub last-printed : (rule : ℕ) (m : Mapping) (x : ℕ) → mends rule ≡ false → lastMask rule m x ≡ mapped m x
+unfolding lastMask
+last-printed rule m x h = rw h
+
 -- where 10000000 came, a bit of the "all" mapping that isn't generic is there
 pub mended-has : (m : Mapping) (x k : ℕ) → has 0x10000000 x ≡ true → has (2 ^ k) (m .all) ≡ true → has (2 ^ k) 0x0FFFFFFF ≡ true
     → has (2 ^ k) (mended m x) ≡ true

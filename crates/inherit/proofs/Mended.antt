@@ -8,8 +8,7 @@ use Prim.Native.Nat.{ℕ}
 use native.Mathlib.Omega.{arith}
 use lib.ListN.{set}
 use Rattle.list.specs.Bytes.{has}
-use Rattle.list.specs.Identity.{placeholderOf}
-use Rattle.list.specs.Entry.{access, flagsOk, kindOf, flagsOf, maskOf, wordOf, sidOf}
+use Rattle.list.specs.Entry.{access, flagsOk, maskOf}
 use Rattle.list.specs.List.{entriesOf}
 use Rattle.list.specs.Good.{Whole, Every}
 use Rattle.list.proofs.Bits.{below-generic}
@@ -17,13 +16,13 @@ use Rattle.list.proofs.Revisions.{flags-ok, every-to}
 use Rattle.inherit.specs.declared.Mapping.{Mapping}
 use Rattle.inherit.specs.Asked.{Asked, Given, givenIn, entriesIf}
 use Rattle.inherit.specs.Copies.{anyHeritable}
-use Rattle.inherit.specs.Last.{inPlace, mends, mended, lastMask, resolved, lastOf, lastStep}
+use Rattle.inherit.specs.Last.{mends, lastMask, resolved, lastOf, lastStep}
 use Rattle.inherit.specs.Branch.{holds, fromDefault, resultOf}
 use Rattle.inherit.specs.Compute.{computeOf, bytesFor}
 use Rattle.inherit.specs.Said.{Low, NoGeneric, Stands, Copied}
 use Rattle.inherit.proofs.Masks.{last-same}
 use Rattle.inherit.proofs.Emits.{resolved-set}
-use Rattle.inherit.proofs.Results.{copy-kind, copy-flags, copy-word, copy-sid, copy-mask, planned-low, planned-again}
+use Rattle.inherit.proofs.Results.{Copy, copy-is, planned-low, planned-again}
 use Rattle.inherit.proofs.Copied.{planned-stands, copied-whole}
 use Rattle.inherit.proofs.Sources.{wholes-of}
 use Rattle.inherit.proofs.Theorems.{made, made-entries, computed-every, not-heritable}
@@ -65,7 +64,6 @@ pub computed-again : (a : Asked) (room : ℕ) → a .rule ≡ 2 → computeOf a 
 unfolding bytesFor fromDefault entriesIf
 computed-again a room r h b n c d =
     let m = made a room h in
-    let es = m .told .entries in
     let q = entries-again a room r h in
     ap bytesFor (not-heritable b n c ∙ ap (fromDefault (givenIn b)) d)
     ∙ ap (λ (xs : List (List ℕ)). bytesFor (holds xs 0)) (last-again (givenIn b) _ q ∙ made-entries a room m)
@@ -73,14 +71,7 @@ computed-again a room r h b n c d =
 
 -- ---- an entry of a list that was given, and its copy in a list computed under rule 2
 
--- the copy's fields
-pub record Copy (a : Asked) (e : List ℕ) (flags : ℕ) (x : List ℕ) : Type 0 where
-  pub kind : kindOf x ≡ kindOf e
-  pub flags-are : flagsOf x ≡ flags
-  pub word : wordOf x ≡ wordOf e
-  pub sid : sidOf x ≡ inPlace (placeholderOf (sidOf e)) (sidOf e) (a .owner) (a .group)
-  pub mask : maskOf x ≡ mended (a .mapping) (maskOf e)
-
+-- its flags are known
 copied-flags : (a : Asked) (e : List ℕ) (flags : ℕ) → Whole access 4 e → Copied a e flags → flagsOk access flags ≡ true
 copied-flags a e flags w (inl i) = rw (i .flags-are) (flags-ok 0x10 (omega arith))
 copied-flags a e flags w (inr (inl o)) = rw (o .flags-are) (w .sound .flags)
@@ -92,18 +83,10 @@ module _ (a : Asked) (room : ℕ) (r : a .rule ≡ 2) (h : computeOf a room .pre
   copied-stands = let m = made a room h in rw (made-entries a room m, m .plan) (planned-stands a r e flags c)
 
   -- and is made of it
-  pub copied-is : Copy a e flags (resolved (givenIn a) (set e 1 flags))
+  pub copied-is : Copy (givenIn a) e flags (resolved (givenIn a) (set e 1 flags))
   copied-is =
       let m = made a room h in
       let v = m .passed in
       let w = copied-whole a _ _ _ (wholes-of (a .parent) (v .parent)) (wholes-of (a .creator) (v .creator)) (wholes-of (a .default) (v .default)) e flags c in
-      let ok = copied-flags a e flags w c in
-      let g = givenIn a in
-      rw (resolved-set g e flags (omega (arith, w .sound .four)))
-      (record {
-        kind = copy-kind g (m .owner .0) (m .group .0) 4 e w flags ok;
-        flags-are = copy-flags g (m .owner .0) (m .group .0) 4 e w flags ok;
-        word = copy-word g (m .owner .0) (m .group .0) 4 e w flags ok;
-        sid = copy-sid g (m .owner .0) (m .group .0) 4 e w flags ok;
-        mask = copy-mask g (m .owner .0) (m .group .0) 4 e w flags ok (two-mends r);
-      })
+      rw (resolved-set (givenIn a) e flags (omega (arith, w .sound .four)))
+      (copy-is (givenIn a) (m .owner .0) (m .group .0) 4 e w flags (copied-flags a e flags w c) (two-mends r))

@@ -50,6 +50,14 @@ in-place-ordinary s owner group o g = by (eqb (placeholderOf s) 1) (eqb (placeho
     by false true p q = g
     by false false p q = no-placeholder s (eqb-false _ 1 p) (eqb-false _ 2 q)
 
+-- the fields of an entry's copy x, with these flags, under a rule that mends
+pub record Copy (g : Given) (e : List ℕ) (flags : ℕ) (x : List ℕ) : Type 0 where
+  pub kind : kindOf x ≡ kindOf e
+  pub flags-are : flagsOf x ≡ flags
+  pub word : wordOf x ≡ wordOf e
+  pub sid : sidOf x ≡ inPlace (placeholderOf (sidOf e)) (sidOf e) (g .owner) (g .group)
+  pub mask : maskOf x ≡ mended (g .mapping) (maskOf e)
+
 -- a whole entry's copy
 module _ (g : Given) (o : isSid (g .owner) ≡ true) (r : isSid (g .group) ≡ true) (rev : ℕ) (e : List ℕ) (w : Whole access rev e) (flags : ℕ)
     (ok : flagsOk access flags ≡ true) where
@@ -62,23 +70,15 @@ module _ (g : Given) (o : isSid (g .owner) ≡ true) (r : isSid (g .group) ≡ t
   one : OneSid put
   one = in-place-one (placeholderOf (sidOf e)) (sidOf e) (g .owner) (g .group) (one-own access rev e (w .sound)) (one-sid (g .owner) o) (one-sid (g .group) r)
 
-  pub copy-whole : Whole access rev (copyOf g flags e)
+  copy-whole : Whole access rev (copyOf g flags e)
   unfolding copyOf
   copy-whole = remade-whole access rev e w flags mask ok put one
 
-  pub copy-kind : kindOf (copyOf g flags e) ≡ kindOf e
-  unfolding copyOf
-  copy-kind = remade-kind access rev e w flags mask ok put one
-
-  pub copy-flags : flagsOf (copyOf g flags e) ≡ flags
+  copy-flags : flagsOf (copyOf g flags e) ≡ flags
   unfolding copyOf
   copy-flags = remade-flags access rev e w flags mask ok put one
 
-  pub copy-word : wordOf (copyOf g flags e) ≡ wordOf e
-  unfolding copyOf
-  copy-word = remade-word access rev e w flags mask ok put one
-
-  pub copy-sid : sidOf (copyOf g flags e) ≡ put
+  copy-sid : sidOf (copyOf g flags e) ≡ put
   unfolding copyOf
   copy-sid = remade-sid access rev e w flags mask ok put one
 
@@ -91,14 +91,22 @@ module _ (g : Given) (o : isSid (g .owner) ≡ true) (r : isSid (g .group) ≡ t
     unfolding copyOf
     mask-is = remade-mask access rev e w flags mask ok put one (omega (arith, mask-low))
 
-    pub copy-mask : maskOf (copyOf g flags e) ≡ mended (g .mapping) (maskOf e)
-    copy-mask = mask-is ∙ last-mended (g .rule) (g .mapping) (maskOf e) m
+    pub copy-is : Copy g e flags (copyOf g flags e)
+    unfolding copyOf
+    copy-is =
+        record {
+          kind = remade-kind access rev e w flags mask ok put one;
+          flags-are = copy-flags;
+          word = remade-word access rev e w flags mask ok put one;
+          sid = copy-sid;
+          mask = mask-is ∙ last-mended (g .rule) (g .mapping) (maskOf e) m;
+        }
 
-    pub copy-low : Low (copyOf g flags e)
+    copy-low : Low (copyOf g flags e)
     copy-low = rw mask-is mask-low
 
     -- another last step, under any rule, leaves the copy as it is
-    pub copy-again : placeholderOf (g .owner) ≡ 0 → placeholderOf (g .group) ≡ 0 → (h : Given) → resolved h (copyOf g flags e) ≡ copyOf g flags e
+    copy-again : placeholderOf (g .owner) ≡ 0 → placeholderOf (g .group) ≡ 0 → (h : Given) → resolved h (copyOf g flags e) ≡ copyOf g flags e
     unfolding resolved copyOf
     copy-again po pr h =
         let x = copyOf g flags e in

@@ -1,10 +1,10 @@
 -- The printed text's mask, or the mended one. Assumes nothing.
 use borrow.Author.Needs.{needs}
 use mathlib.Core.Path.{sym, ap, _∙_}
-use mathlib.Core.Bool.{Bool, cond}
 use Prim.Native.Nat.{ℕ}
 use lib.Bits.{bitAnd}
-use Rattle.inherit.specs.Last.{joined, mapped, mends, mended, lastMask}
+use Rattle.inherit.specs.Last.{joined, mended}
+use Rattle.inherit.proofs.Masks.{last-mended, last-printed}
 use Rattle.inherit.proofs.last.last_mask.Statement.{statement}
 use Rattle.inherit.proofs.last.last_mask.Tie as tie
 
@@ -19,21 +19,19 @@ mends-requires c κs = search needs
 
 -- the rule mends
 returns : tie.Need-returns
-unfolding lastMask mended
+unfolding mended
 returns c =
     let k = c .before in
     let a = k .before .before .before .args in
     ap (λ (m : ℕ). bitAnd m 0x0FFFFFFF) (k .before .joined .ensures ∙ ap (λ (m : ℕ). joined 0x10000000 (a .mask) m (a .mapping .all)) (k .before .before .mapped .ensures))
-    ∙ ap (λ (b : Bool). cond b (mended (a .mapping) (a .mask)) (mapped (a .mapping) (a .mask))) (sym (c .if1 .taken) ∙ k .mends .ensures)
+    ∙ sym (last-mended (a .rule) (a .mapping) (a .mask) (sym (k .mends .ensures) ∙ c .if1 .taken))
 
 -- it doesn't
 returns-2 : tie.Need-returns-2
-unfolding lastMask
 returns-2 c =
     let k = c .before in
     let a = k .before .before .before .args in
-    k .before .before .mapped .ensures
-    ∙ ap (λ (b : Bool). cond b (mended (a .mapping) (a .mask)) (mapped (a .mapping) (a .mask))) (sym (c .if1 .left) ∙ k .mends .ensures)
+    k .before .before .mapped .ensures ∙ sym (last-printed (a .rule) (a .mapping) (a .mask) (sym (k .mends .ensures) ∙ c .if1 .left))
 
 pub last-mask-spec : {M : Type 1} → statement M
 last-mask-spec = tie.close (tie.spec mapped-requires joined-requires mends-requires returns returns-2)
