@@ -9,7 +9,8 @@
 #               at their limits, SCRIPTS scripts and PIPED scripts handed to axs in pieces, all from SEED
 # make hostile  CALLS calls of the C library with hostile bytes between guard pages, and some under valgrind
 # make cases    the stored cases and their answers anew, both by the second program
-# make bench    the table of docs/BENCH.md: instructions and times, library and second program (not a test)
+# make bench    the table of docs/BENCH.md: instructions, of the library now and in the last landings, and of the second program; on an
+#               x86-64 machine times too (not a test). bash bench/keep NUMBER keeps the library's as that landing's
 # The library and axs are for x86-64. On other machines C programs are built for x86-64 too, and run under the kit's emulator.
 
 SCRIPT ?= examples/document.axs

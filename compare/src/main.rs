@@ -20,7 +20,7 @@ use report::Report;
 
 const USAGE: &str = "usage: compare list|compute|tree|deep|script|access --cases N --seed S
        compare program PATH --cases N --seed S
-       compare repeat library|second WHAT TIMES     (bench/run names what)";
+       compare repeat time|count library|second WHAT TIMES     (bench/rows.txt names what)";
 
 /// What is compared.
 enum Which {
@@ -48,7 +48,7 @@ fn main() -> ExitCode {
     let arguments: Vec<String> = std::env::args().skip(1).collect();
     let words: Vec<&str> = arguments.iter().map(String::as_str).collect();
     match words[..] {
-        ["repeat", who, what, times] => return repeated(who, what, times),
+        ["repeat", how, who, what, times] => return repeated(how, who, what, times),
         // `compare program` starts it by itself.
         ["witness"] => {
             return program::witness::run().map_or(ExitCode::FAILURE, |()| ExitCode::SUCCESS);
@@ -69,11 +69,11 @@ fn main() -> ExitCode {
     }
 }
 
-fn repeated(who: &str, what: &str, times: &str) -> ExitCode {
+fn repeated(how: &str, who: &str, what: &str, times: &str) -> ExitCode {
     match times
         .parse()
         .ok()
-        .and_then(|times| repeat::run(who, what, times))
+        .and_then(|times| repeat::run(how, who, what, times))
     {
         Some(()) => ExitCode::SUCCESS,
         None => ExitCode::FAILURE,

@@ -8,7 +8,11 @@ mod playing;
 mod reading;
 mod tree;
 
+use std::thread::yield_now;
 use std::time::{Duration, Instant};
+
+use computing::Computing;
+use lists::{Inheritable, plain};
 
 /// Spare bytes of a list that is read, and of a parent's.
 const SPARE_READ: usize = 60_000;
@@ -30,41 +34,65 @@ pub trait Repeated {
     fn outcome(&self) -> ([u32; 8], String);
 }
 
-/// A short call is measured a thousand at a time, and nothing has to be
-/// brought back in between.
+/// A short call is measured a thousand at a time, one on a long list ten, and
+/// nothing has to be brought back in between.
 fn at_a_time(what: &str) -> usize {
     match what.split_once('_') {
-        Some(("read" | "compute" | "may" | "step", _)) => 1_000,
+        Some(("read" | "compute" | "search", of)) if of.ends_with("3000") => 10,
+        Some(("read" | "compute" | "search" | "may" | "step", _)) => 1_000,
         _ => 1,
     }
 }
 
-/// Measures so many times and prints how many calls that were, and the
-/// shortest time of one in nanoseconds; `None` where there is no such call.
-pub fn run(who: &str, what: &str, times: usize) -> Option<()> {
+/// Measures so many times; `None` where there is no such call.
+pub fn run(how: &str, who: &str, what: &str, times: usize) -> Option<()> {
     let side = match who {
         "library" => Side::Library,
         "second" => Side::Second,
         _ => return None,
     };
+    let measure = match how {
+        "time" => time,
+        "count" => count,
+        _ => return None,
+    };
     check_that_both_agree(what)?;
-    let mut repeated = repeated(side, what)?;
-    let at_a_time = at_a_time(what);
+    measure(repeated(side, what)?.as_mut(), at_a_time(what), times);
+    Some(())
+}
+
+/// Prints the shortest time of one call in nanoseconds.
+fn time(repeated: &mut dyn Repeated, at_a_time: usize, times: usize) {
     let shortest = (0..times)
         .map(|_| {
             repeated.bring_back();
             let before = Instant::now();
-            measured_calls(repeated.as_mut(), at_a_time);
+            measured_calls(repeated, at_a_time);
             before.elapsed()
         })
         .min()
         .unwrap_or(Duration::ZERO);
-    let calls = times * at_a_time;
-    println!("{calls} {}", shortest.as_nanos() / at_a_time as u128);
-    Some(())
+    println!("{}", shortest.as_nanos() / at_a_time as u128);
 }
 
-/// bench/run counts the instructions between entry and exit, by this name.
+/// Prints how many calls there are between two marks. The first two have none
+/// between them, which tells what the marks take.
+fn count(repeated: &mut dyn Repeated, at_a_time: usize, times: usize) {
+    println!("{at_a_time}");
+    marked_calls(repeated, 0);
+    for _ in 0..times {
+        repeated.bring_back();
+        marked_calls(repeated, at_a_time);
+    }
+}
+
+/// The mark is a system call, which bench/counter.c sees.
+fn marked_calls(repeated: &mut dyn Repeated, calls: usize) {
+    yield_now();
+    measured_calls(repeated, calls);
+    yield_now();
+}
+
 #[inline(never)]
 fn measured_calls(repeated: &mut dyn Repeated, calls: usize) {
     for _ in 0..calls {
@@ -73,7 +101,9 @@ fn measured_calls(repeated: &mut dyn Repeated, calls: usize) {
 }
 
 /// On `read_N`, `read_spare_N`, `compute_N`, `compute_spare_N`, `set_list_N`,
-/// `undo_N`, `full_tree`, `play_N`, `may_open_16`, `may_open_100` and `step_N`.
+/// `undo_N`, `full_tree`, `play_N`, `may_open_16`, `may_open_100`, `step_N`,
+/// and `compute_WHICH_N` and `search_WHICH_N`, where WHICH is `first`, `last`
+/// or `none`, and says which of the parent's entries is inheritable.
 fn repeated(side: Side, what: &str) -> Option<Box<dyn Repeated>> {
     if what == "full_tree" {
         return Some(Box::new(tree::mark_on_the_full_tree(side)));
@@ -83,12 +113,11 @@ fn repeated(side: Side, what: &str) -> Option<Box<dyn Repeated>> {
     Some(match name {
         "read" => Box::new(reading::Reading::of_entries(side, number, 0)),
         "read_spare" => Box::new(reading::Reading::of_entries(side, number, SPARE_READ)),
-        "compute" => Box::new(computing::Computing::of_entries(side, number, 0)),
-        "compute_spare" => Box::new(computing::Computing::of_entries(
-            side,
-            number,
-            SPARE_COMPUTED,
-        )),
+        "compute" => Box::new(Computing::below(side, plain(number, Inheritable::All, 0))),
+        "compute_spare" => {
+            let parent = plain(number, Inheritable::All, SPARE_COMPUTED);
+            Box::new(Computing::below(side, parent))
+        }
         "set_list" => Box::new(tree::set_list(side, number)),
         "undo" => Box::new(tree::undo(side, number)),
         "play" => Box::new(playing::Playing::of_records(side, number)),
@@ -98,7 +127,15 @@ fn repeated(side: Side, what: &str) -> Option<Box<dyn Repeated>> {
             held_with(number)?,
         )),
         "step" => Box::new(access::Stepping::of_entries(side, number)),
-        _ => return None,
+        _ => {
+            let (call, which) = name.split_once('_')?;
+            let parent = plain(number, Inheritable::by_name(which)?, 0);
+            match call {
+                "compute" => Box::new(Computing::below(side, parent)),
+                "search" => Box::new(Computing::searching(side, parent)),
+                _ => return None,
+            }
+        }
     })
 }
 

@@ -2,9 +2,10 @@
 
 use std::hint::black_box;
 
-use super::{Repeated, Side, lists};
+use super::{Repeated, Side};
 use crate::capi::lending::Lending;
 use crate::capi::{self, WhenEmpty};
+use second::cases::build::good_list;
 use second::cases::tree::make::system;
 use second::computing::{self, Request, setting};
 use second::script::empty_tree;
@@ -17,12 +18,12 @@ pub struct Computing {
 }
 
 impl Computing {
-    /// So many has the parent's list, and so many spare bytes behind them.
-    pub fn of_entries(side: Side, entries: usize, spare: usize) -> Computing {
-        let parent = lists::plain(entries, spare);
+    /// Of a container that has no list of its own; everything that is
+    /// inherited becomes two entries, and has room.
+    pub fn below(side: Side, parent: Vec<u8>) -> Computing {
         Computing {
             side,
-            out: vec![0; 2 * (parent.len() - spare)],
+            out: vec![0; 2 * parent.len()],
             request: Request {
                 rule: 2,
                 settings: setting::PARENT | setting::CONTAINER | setting::AUTO_INHERIT,
@@ -36,6 +37,15 @@ impl Computing {
             },
             answer: [0; 8],
         }
+    }
+
+    /// Of a container whose own list is empty and which inherits nothing: the
+    /// parent is searched for an inheritable entry, and none is copied.
+    pub fn searching(side: Side, parent: Vec<u8>) -> Computing {
+        let mut computing = Computing::below(side, parent);
+        computing.request.settings = setting::PARENT | setting::CREATOR | setting::CONTAINER;
+        computing.request.creator = good_list(&[]);
+        computing
     }
 }
 

@@ -2,16 +2,50 @@
 
 use second::cases::build::{EntryPlan, creator_sid, good_list, nt_sid, with_spare};
 
-/// Every entry is inherited by containers and other objects, and has 20 bytes.
+/// Inherited by containers and other objects.
 const BOTH: u8 = 0x03;
 /// To read, to be mapped.
 const GENERIC_READ: u32 = 0x8000_0000;
 
-/// Allowing and denying in turn, for S-1-5-18, and so many spare bytes.
-pub fn plain(entries: usize, spare: usize) -> Vec<u8> {
-    let plans = (0..entries).map(|number| EntryPlan {
-        mask: 1,
-        ..EntryPlan::plain((number % 2) as u8, BOTH, nt_sid(&[18]))
+/// Which entries are inherited.
+#[derive(Clone, Copy)]
+pub enum Inheritable {
+    All,
+    First,
+    Last,
+    None,
+}
+
+impl Inheritable {
+    pub fn by_name(name: &str) -> Option<Inheritable> {
+        match name {
+            "first" => Some(Inheritable::First),
+            "last" => Some(Inheritable::Last),
+            "none" => Some(Inheritable::None),
+            _ => None,
+        }
+    }
+
+    fn flags(self, number: usize, entries: usize) -> u8 {
+        let is_inherited = match self {
+            Inheritable::All => true,
+            Inheritable::First => number == 0,
+            Inheritable::Last => number + 1 == entries,
+            Inheritable::None => false,
+        };
+        if is_inherited { BOTH } else { 0 }
+    }
+}
+
+/// Allowing and denying in turn, for S-1-5-18, 20 bytes each, and so many
+/// spare bytes.
+pub fn plain(entries: usize, inheritable: Inheritable, spare: usize) -> Vec<u8> {
+    let plans = (0..entries).map(|number| {
+        let flags = inheritable.flags(number, entries);
+        EntryPlan {
+            mask: 1,
+            ..EntryPlan::plain((number % 2) as u8, flags, nt_sid(&[18]))
+        }
     });
     let list = good_list(&plans.collect::<Vec<_>>());
     with_spare(&list, &vec![0xEE; spare])

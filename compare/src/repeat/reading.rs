@@ -18,7 +18,7 @@ impl Reading {
     pub fn of_entries(side: Side, entries: usize, spare: usize) -> Reading {
         Reading {
             side,
-            list: lists::plain(entries, spare),
+            list: lists::plain(entries, lists::Inheritable::All, spare),
             row: vec![0; entries],
             answer: [0; 8],
         }
