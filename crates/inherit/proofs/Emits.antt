@@ -1,7 +1,7 @@
 -- Laws of the passes: what one entry gives, a list's entries one by one, and how much they measure together.
 use mathlib.Core.Path.{_≡_, refl, sym, ap, _∙_}
 use mathlib.Core.Bool.{Bool, true, false, cond, _&&_, _||_, or-assoc}
-use mathlib.Core.List.{List, [], _∷_, _++_, append-assoc, append-nil, flatten}
+use mathlib.Core.List.{List, [], _∷_, _++_, append-assoc, flatten}
 use Prim.Native.Nat.{ℕ, zero, suc, _+_, _-_, _≤_, _<_}
 use native.Mathlib.Nat.{not-suc-le-zero}
 use native.Mathlib.Omega.{arith}
@@ -9,7 +9,7 @@ use lib.ListN.{length, set, take, drop, length-append}
 use lib.Dec.{eqb}
 use Rattle.list.specs.Bytes.{has, among}
 use Rattle.list.specs.Identity.{placeholderOf}
-use Rattle.list.specs.Entry.{access, objectKind, kindOf, flagsOf, sizeOf, wordOf, sidAt, middleOf, sidOf, tailOf}
+use Rattle.list.specs.Entry.{access, objectKind, kindOf, flagsOf, sizeOf, wordOf, sidAt, sidOf}
 use Rattle.list.specs.List.{cut}
 use Rattle.list.specs.Good.{Sound}
 use Rattle.list.proofs.Sids.{sid-most}
@@ -21,7 +21,7 @@ use Rattle.inherit.specs.Asked.{Given}
 use Rattle.inherit.specs.Copies.{typeApplies, takesFirst, takesSecond}
 use Rattle.inherit.specs.Last.{inPlace, resolved}
 use Rattle.inherit.specs.Compute.{anyObject}
-use Rattle.inherit.specs.Inner.Emit.{takesBy, flagsBy, copyOf, emitOf, emitAll, measureOf, both}
+use Rattle.inherit.specs.Inner.Emit.{takesBy, flagsBy, copyLength, copyOf, emitOf, emitAll, measureOf, both}
 
 -- the last step over an entry with new flags is a copy with these flags
 pub resolved-set : (g : Given) (t : List ℕ) (v : ℕ) → 1 < length t → resolved g (set t 1 v) ≡ copyOf g v t
@@ -109,9 +109,7 @@ pub measure-append : (xs ys : List (List ℕ)) → measureOf (xs ++ ys) ≡ both
 measure-append xs ys = rw (flatten-append xs ys, length-append (flatten xs) (flatten ys), length-append xs ys, object-append xs ys)
 
 -- how long a copy is
-pub copy-length : (g : Given) (flags : ℕ) (t : List ℕ)
-    → length (copyOf g flags t)
-    ≡ 8 + (length (middleOf t) + (length (inPlace (placeholderOf (sidOf t)) (sidOf t) (g .owner) (g .group)) + length (tailOf t)))
+pub copy-length : (g : Given) (flags : ℕ) (t : List ℕ) → length (copyOf g flags t) ≡ copyLength t (g .owner) (g .group)
 unfolding copyOf
 copy-length g flags t = length-entry _
 
@@ -124,17 +122,11 @@ pub in-place-le : (k : ℕ) (sid owner group : List ℕ) → length owner ≤ 68
 unfolding inPlace
 in-place-le k sid owner group o g s = cond-long (eqb k 1) owner _ 68 o (cond-long (eqb k 2) group sid 68 g s)
 
-pub emit-le : (g : Given) (p : Pass) (rev : ℕ) (t : List ℕ) → Sound access rev t → length (g .owner) ≤ 68 → length (g .group) ≤ 68
-    → length (flatten (emitOf g p t)) ≤ sizeOf t + 68
-unfolding flatten
-emit-le g p rev t s o r = by (takesBy g p t) refl
-  where
-    by : (b : Bool) → takesBy g p t ≡ b → length (flatten (emitOf g p t)) ≤ sizeOf t + 68
-    by true e =
-        let b = bounds access rev t s in
-        let m = sid-most (drop (sidAt t) t) in
-        let c = copyOf g (flagsBy p (flagsOf t)) t in
-        let n = in-place-le (placeholderOf (sidOf t)) (sidOf t) (g .owner) (g .group) o r (omega (arith, b .sid-length)) in
-        let l = copy-length g (flagsBy p (flagsOf t)) t in
-        rw (emit-yes g p t e (omega (arith, s .four)), append-nil) (omega arith)
-    by false e = rw (emit-no g p t e) (omega arith)
+-- no longer than the entry and a SID
+pub copy-le : (g : Given) (rev : ℕ) (t : List ℕ) → Sound access rev t → length (g .owner) ≤ 68 → length (g .group) ≤ 68
+    → copyLength t (g .owner) (g .group) ≤ sizeOf t + 68
+copy-le g rev t s o r =
+    let b = bounds access rev t s in
+    let m = sid-most (drop (sidAt t) t) in
+    let n = in-place-le (placeholderOf (sidOf t)) (sidOf t) (g .owner) (g .group) o r (omega (arith, b .sid-length)) in
+    omega arith

@@ -11,11 +11,15 @@ use Rattle.inherit.specs.declared.passes.Measure.{Measure}
 use Rattle.inherit.specs.Inner.Emit.{measureOf, both}
 use Rattle.inherit.specs.Inner.Plan.{onward}
 use Rattle.inherit.proofs.Emits.{flatten-append, measure-append}
+use Rattle.inherit.proofs.Measures.{both-assoc}
 
 module _ (a b c d : List (List ℕ)) where
-  pub measure-four : both (measureOf a) (both (measureOf b) (both (measureOf c) (measureOf d))) ≡ measureOf (a ++ (b ++ (c ++ d)))
+  pub measure-four : both (measureOf a) (both (both (measureOf b) (measureOf c)) (measureOf d)) ≡ measureOf (a ++ (b ++ (c ++ d)))
   measure-four =
-      sym (measure-append a (b ++ (c ++ d)) ∙ ap (both (measureOf a)) (measure-append b (c ++ d) ∙ ap (both (measureOf b)) (measure-append c d)))
+      sym
+      (measure-append a (b ++ (c ++ d))
+      ∙ ap (both (measureOf a))
+      (measure-append b (c ++ d) ∙ ap (both (measureOf b)) (measure-append c d) ∙ sym (both-assoc (measureOf b) (measureOf c) (measureOf d))))
 
   pub flatten-four : flatten (a ++ (b ++ (c ++ d))) ≡ ((flatten a ++ flatten b) ++ flatten c) ++ flatten d
   flatten-four =
@@ -32,12 +36,12 @@ module _ (a b c d : List (List ℕ)) where
       ∙ length-append (flatten a ++ flatten b ++ flatten c) (flatten d)
       ∙ omega (arith, length-append (flatten a ++ flatten b) (flatten c), length-append (flatten a) (flatten b))
 
--- no more than n passes over a list measure: at most 65,603 bytes for each of 65,535 entries
+-- no more than n lists measure: at most two copies, 131,206 bytes, for each of 65,535 entries
 pub record Within (n : ℕ) (m : Measure) : Type 0 where
-  pub bytes : m .bytes ≤ 65603 * (65535 * n)
-  pub count : m .count ≤ 65535 * n
+  pub bytes : m .bytes ≤ 131206 * (65535 * n)
+  pub count : m .count ≤ 2 * (65535 * n)
 
-pub within-one : (n : ℕ) (m : Measure) → n ≤ 65535 → m .bytes ≤ 65603 * n → m .count ≤ n → Within 1 m
+pub within-one : (n : ℕ) (m : Measure) → n ≤ 65535 → m .bytes ≤ 131206 * n → m .count ≤ 2 * n → Within 1 m
 within-one n m few b k = record { bytes = omega arith; count = omega arith }
 
 pub within-more : (n : ℕ) (a b m : Measure) → Within 1 a → Within n b → m ≡ both a b → Within (suc n) m

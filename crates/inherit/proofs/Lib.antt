@@ -4,6 +4,7 @@ pub mod Lying
 pub mod Flags
 pub mod Masks
 pub mod Emits
+pub mod Measures
 pub mod One
 pub mod Loops
 pub mod Planned

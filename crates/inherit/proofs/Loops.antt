@@ -1,9 +1,8 @@
 -- What holds at each turn of the two loops over a list's entries.
 use mathlib.Core.Path.{_≡_, refl, sym, ap, _∙_}
-use mathlib.Core.Bool.{false, or-assoc, or-false}
+use mathlib.Core.Bool.{false}
 use mathlib.Core.List.{List, _++_, append-assoc, append-nil, flatten}
 use Prim.Native.Nat.{ℕ, _+_, _-_, _*_, _≤_, _<_}
-use native.Mathlib.Nat.{add-assoc, add-zero, zero-add}
 use native.Mathlib.Omega.{arith}
 use lib.ListN.{length, take, drop, length-append, length-drop}
 use lib.Seq.{drop-drop, take-all}
@@ -14,21 +13,20 @@ use Rattle.list.specs.Good.{Sound, Passes}
 use Rattle.list.proofs.Rows.{passes-turn}
 use Rattle.list.proofs.Writes.{Stands, grown, stands-none, stands-length}
 use Rattle.inherit.specs.declared.copies.Pass.{Pass}
+use Rattle.inherit.specs.declared.copies.Origin.{Origin}
 use Rattle.inherit.specs.declared.passes.Measure.{Measure}
 use Rattle.inherit.specs.Asked.{Given}
 use Rattle.inherit.specs.Compute.{anyObject}
-use Rattle.inherit.specs.Inner.Emit.{emitOf, emitAll, emitted, measureOf, both}
-use Rattle.inherit.proofs.Emits.{emit-turn, emit-none, emit-le, flatten-append, measure-append}
-use Rattle.inherit.proofs.One.{measures, emit-few}
+use Rattle.inherit.specs.Inner.Emit.{emitOf, emitAll, emitted, both, measureFrom, measureAll}
+use Rattle.inherit.proofs.Emits.{emit-turn, emit-none, flatten-append}
+use Rattle.inherit.proofs.Measures.{both-none, none-both, both-assoc, measure-none, measure-turn}
+use Rattle.inherit.proofs.One.{from-bytes, from-count}
 
 -- `&s[at..]` is what is left
 pub rest-is : (s : List ℕ) (at : ℕ) → take (length s - at) (drop at s) ≡ drop at s
 rest-is s at = take-all (length s - at) (drop at s) (omega (arith, length-drop at s))
 
-both-none : (a : Measure) → both a (record { bytes = 0; count = 0; object = false }) ≡ a
-both-none a = measures (add-zero (a .bytes)) (add-zero (a .count)) (or-false (a .object))
-
-module _ (g : Given) (p : Pass) (rev : ℕ) (s : List ℕ) (n : ℕ) where
+module _ (rev : ℕ) (s : List ℕ) where
   -- the entry that comes next, and those after it
   pub next-entry : (at left : ℕ) → 0 < left → Passes access rev left (drop at s)
       → Sound access rev (drop at s) × Passes access rev (left - 1) (drop (at + sizeOf (drop at s)) s)
@@ -39,57 +37,58 @@ module _ (g : Given) (p : Pass) (rev : ℕ) (s : List ℕ) (n : ℕ) where
   pub inside : (at left : ℕ) → 0 < left → Passes access rev left (drop at s) → at + sizeOf (drop at s) ≤ length s
   inside at left h r = let t = next-entry at left h r .0 in omega (arith, length-drop at s, t .four, t .within)
 
-  turned : (at left : ℕ) → 0 < left → Passes access rev left (drop at s)
-      → emitAll g p (cut left (drop at s)) ≡ emitOf g p (drop at s) ++ emitAll g p (cut (left - 1) (drop (at + sizeOf (drop at s)) s))
-  turned at left h r =
-      emit-turn g p rev left (drop at s) h (next-entry at left h r .0)
-      ∙ ap (λ (t : List ℕ). emitOf g p (drop at s) ++ emitAll g p (cut (left - 1) t)) (drop-drop (sizeOf (drop at s)) at s)
-
+module _ (g : Given) (o : Origin) (rev : ℕ) (s : List ℕ) (n : ℕ) where
   -- what was measured, with what is still to come, is the measure of all
   pub record Measuring (total : Measure) (at left : ℕ) : Type 0 where
     pub most : left ≤ n
     pub rest : Passes access rev left (drop at s)
-    pub sum : both total (measureOf (emitAll g p (cut left (drop at s)))) ≡ measureOf (emitted g p n s)
-    pub bytes : total .bytes ≤ 65603 * (n - left)
-    pub count : total .count ≤ n - left
+    pub sum : both total (measureAll g o (cut left (drop at s))) ≡ measureAll g o (cut n (drop 8 s))
+    pub bytes : total .bytes ≤ 131206 * (n - left)
+    pub count : total .count ≤ 2 * (n - left)
 
   pub measuring-none : Passes access rev n (drop 8 s) → Measuring (record { bytes = 0; count = 0; object = false }) 8 n
-  measuring-none r = record { most = omega arith; rest = r; sum = measures (zero-add _) (zero-add _) refl; bytes = omega arith; count = omega arith }
-
-  both-assoc : (a b c : Measure) → both (both a b) c ≡ both a (both b c)
-  both-assoc a b c =
-      measures (add-assoc (a .bytes) (b .bytes) (c .bytes)) (add-assoc (a .count) (b .count) (c .count))
-      (or-assoc (a .object) (b .object) (c .object))
+  unfolding flatten anyObject
+  measuring-none r = record { most = omega arith; rest = r; sum = none-both _; bytes = omega arith; count = omega arith }
 
   module _ (total : Measure) (at left : ℕ) (m : Measuring total at left) (h : 0 < left) (small : sizeOf (drop at s) ≤ 65535)
       (lo : length (g .owner) ≤ 68) (lg : length (g .group) ≤ 68) where
-    pub few : length (flatten (emitOf g p (drop at s))) ≤ 65603
-    few = omega (arith, emit-le g p rev (drop at s) (next-entry at left h (m .rest) .0) lo lg)
+    here : Sound access rev (drop at s)
+    here = next-entry rev s at left h (m .rest) .0
 
-    pub measuring-more : Measuring (both total (measureOf (emitOf g p (drop at s)))) (at + sizeOf (drop at s)) (left - 1)
+    pub few : measureFrom g o (drop at s) .bytes ≤ 131206
+    few = omega (arith, from-bytes rev (drop at s) here g o lo lg)
+
+    pub measuring-more : Measuring (both total (measureFrom g o (drop at s))) (at + sizeOf (drop at s)) (left - 1)
     measuring-more =
         let k = m .most in
         let i : n - (left - 1) ≡ n - left + 1 = omega arith in
         record {
           most = omega arith;
-          rest = next-entry at left h (m .rest) .1;
+          rest = next-entry rev s at left h (m .rest) .1;
           sum =
-              both-assoc total (measureOf (emitOf g p (drop at s))) _
-              ∙ ap (both total) (sym (measure-append (emitOf g p (drop at s)) _) ∙ ap measureOf (sym (turned at left h (m .rest))))
+              both-assoc total (measureFrom g o (drop at s)) _
+              ∙ ap (both total)
+              (ap (λ (t : List ℕ). both (measureFrom g o (drop at s)) (measureAll g o (cut (left - 1) t))) (sym (drop-drop (sizeOf (drop at s)) at s))
+              ∙ sym (measure-turn g o rev left (drop at s) h here))
               ∙ m .sum;
           bytes = omega (arith, few, m .bytes, i);
-          count = omega (arith, emit-few g p (drop at s), m .count, i);
+          count = omega (arith, from-count rev (drop at s) here g o, m .count, i);
         }
 
     -- the same, of what the code measured in the turn
-    pub measuring-turn : (total′ gives : Measure) (size : ℕ) → total′ ≡ both total gives → gives ≡ measureOf (emitOf g p (drop at s))
+    pub measuring-turn : (total′ gives : Measure) (size : ℕ) → total′ ≡ both total gives → gives ≡ measureFrom g o (drop at s)
         → size ≡ sizeOf (drop at s) → Measuring total′ (at + size) (left - 1)
     measuring-turn total′ gives size et eg es = rw (et, eg, es) measuring-more
 
-  pub measured-all : (total : Measure) (at left : ℕ) → Measuring total at left → left ≤ 0 → total ≡ measureOf (emitted g p n s)
-  unfolding flatten anyObject
-  measured-all total at left m h =
-      sym (both-none total) ∙ ap (λ (es : List (List ℕ)). both total (measureOf es)) (sym (emit-none g p left (drop at s) h)) ∙ m .sum
+  pub measured-all : (total : Measure) (at left : ℕ) → Measuring total at left → left ≤ 0 → total ≡ measureAll g o (cut n (drop 8 s))
+  measured-all total at left m h = sym (both-none total) ∙ ap (both total) (sym (measure-none g o left (drop at s) h)) ∙ m .sum
+
+module _ (g : Given) (p : Pass) (rev : ℕ) (s : List ℕ) (n : ℕ) where
+  turned : (at left : ℕ) → 0 < left → Passes access rev left (drop at s)
+      → emitAll g p (cut left (drop at s)) ≡ emitOf g p (drop at s) ++ emitAll g p (cut (left - 1) (drop (at + sizeOf (drop at s)) s))
+  turned at left h r =
+      emit-turn g p rev left (drop at s) h (next-entry rev s at left h r .0)
+      ∙ ap (λ (t : List ℕ). emitOf g p (drop at s) ++ emitAll g p (cut (left - 1) t)) (drop-drop (sizeOf (drop at s)) at s)
 
   -- what was written stands on the front, and with what is still to come it is all
   pub record Writing (out₀ out : List ℕ) (to at left : ℕ) : Type 0 where
@@ -132,7 +131,7 @@ module _ (g : Given) (p : Pass) (rev : ℕ) (s : List ℕ) (n : ℕ) where
           let q = grown out₀ out ys (flatten (emitOf g p (drop at s))) to k (w .stands) ey ek (omega arith) in
           record {
             most = omega arith;
-            rest = next-entry at left h (w .rest) .1;
+            rest = next-entry rev s at left h (w .rest) .1;
             stands = q .stands;
             sofar =
                 ap (λ (x : List ℕ). x ++ flatten (emitAll g p (cut (left - 1) (drop (at + sizeOf (drop at s)) s)))) (q .more)

@@ -1,6 +1,6 @@
--- What holds at each turn of the search for an inheritable entry.
+-- What holds at each turn of the search for an inheritable entry, which ends at the first.
 use mathlib.Core.Path.{_≡_, refl, sym, ap, _∙_}
-use mathlib.Core.Bool.{Bool, false, _||_, or-assoc, or-false}
+use mathlib.Core.Bool.{true, false, _||_}
 use mathlib.Core.List.{List}
 use Prim.Native.Nat.{ℕ, zero, suc, _+_, _-_, _≤_, _<_}
 use native.Mathlib.Nat.{not-suc-le-zero}
@@ -29,31 +29,32 @@ any-none zero t h = refl
 any-none (suc n) t h = absurd (not-suc-le-zero h)
 
 module _ (rev : ℕ) (s : List ℕ) (n : ℕ) where
-  -- what was found, or is found among the entries still to come, is found in all
-  pub record Searching (found : Bool) (at left : ℕ) : Type 0 where
+  -- none was found: what is found among the entries still to come is found in all
+  pub record Searching (at left : ℕ) : Type 0 where
     pub rest : Passes access rev left (drop at s)
-    pub sofar : (found || anyHeritable (cut left (drop at s))) ≡ anyHeritable (cut n (drop 8 s))
+    pub sofar : anyHeritable (cut left (drop at s)) ≡ anyHeritable (cut n (drop 8 s))
 
-  pub searching-none : Passes access rev n (drop 8 s) → Searching false 8 n
+  pub searching-none : Passes access rev n (drop 8 s) → Searching 8 n
   searching-none r = record { rest = r; sofar = refl }
 
-  pub searching-more : (found : Bool) (at left : ℕ) → Searching found at left → 0 < left
-      → Searching (found || heritable (drop at s)) (at + sizeOf (drop at s)) (left - 1)
-  searching-more found at left m h =
-      let t = passes-turn access rev left (drop at s) h (m .rest) in
-      let d = drop-drop (sizeOf (drop at s)) at s in
-      record {
-        rest = rw (← d) (t .1);
-        sofar =
-            or-assoc found (heritable (drop at s)) _
-            ∙ ap (λ (b : Bool). found || b) (rw (← d) (sym (any-turn rev left (drop at s) h (t .0))))
-            ∙ m .sofar;
-      }
+  module _ (at left : ℕ) (m : Searching at left) (h : 0 < left) where
+    turned : (heritable (drop at s) || anyHeritable (cut (left - 1) (drop (at + sizeOf (drop at s)) s))) ≡ anyHeritable (cut n (drop 8 s))
+    turned =
+        rw (← drop-drop (sizeOf (drop at s)) at s)
+        (sym (any-turn rev left (drop at s) h (passes-turn access rev left (drop at s) h (m .rest) .0)) ∙ m .sofar)
 
-  -- the same, of what the code found in the turn
-  pub searching-turn : (found : Bool) (at left : ℕ) → Searching found at left → 0 < left → (found′ flag : Bool) (size : ℕ)
-      → found′ ≡ (found || flag) → flag ≡ heritable (drop at s) → size ≡ sizeOf (drop at s) → Searching found′ (at + size) (left - 1)
-  searching-turn found at left m h found′ flag size ef eh es = rw (ef, eh, es) (searching-more found at left m h)
+    -- the first that is found ends it
+    pub found : heritable (drop at s) ≡ true → true ≡ anyHeritable (cut n (drop 8 s))
+    found e = rw e at turned
 
-  pub searched-all : (found : Bool) (at left : ℕ) → Searching found at left → left ≤ 0 → found ≡ anyHeritable (cut n (drop 8 s))
-  searched-all found at left m h = sym (or-false found) ∙ ap (λ (b : Bool). found || b) (sym (any-none left (drop at s) h)) ∙ m .sofar
+    -- the next one, behind one that isn't inheritable
+    pub searching-more : (size : ℕ) → heritable (drop at s) ≡ false → size ≡ sizeOf (drop at s) → Searching (at + size) (left - 1)
+    searching-more size e es =
+        rw es
+        (record {
+          rest = rw (← drop-drop (sizeOf (drop at s)) at s) (passes-turn access rev left (drop at s) h (m .rest) .1);
+          sofar = rw e at turned;
+        })
+
+  pub none-found : (at left : ℕ) → Searching at left → left ≤ 0 → false ≡ anyHeritable (cut n (drop 8 s))
+  none-found at left m h = sym (any-none left (drop at s) h) ∙ m .sofar

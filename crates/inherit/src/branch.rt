@@ -1,15 +1,13 @@
 // Which branch of the table is taken (RULES 2.10).
 ghost use mathlib.Core.Path.{_≡_};
 ghost use lib.ListN.{drop};
-ghost use Rattle.list.specs.Entry.{access, sizeOf};
+ghost use Rattle.list.specs.Entry.{access};
 ghost use Rattle.list.specs.List.{cut};
-ghost use Rattle.list.specs.Good.{Sound, Passes};
-ghost use Rattle.inherit.specs.Copies.{heritable, anyHeritable};
+ghost use Rattle.list.specs.Good.{Passes};
+ghost use Rattle.inherit.specs.Copies.{anyHeritable};
 ghost use Rattle.inherit.specs.Inner.Plan.{mergedOf, planOf};
 use crate::Settings;
 use crate::copies::has;
-use crate::passes::either;
-use list::Checked;
 
 // Which lists give entries: the creator's own ones, the parent's, the default list's; or no list at all.
 pub struct Plan {
@@ -93,41 +91,20 @@ pub(crate) fn plan_for(rule: u32, s: Settings, heritable: bool) -> Plan
     merged(rule != 1, s.auto, s.protect)
 }
 
-// An entry's size, and whether it is inheritable.
-pub struct Looked {
-    pub size: usize,
-    pub inheritable: bool,
-}
-
-fn look_at(t: &[u8], rev: u8) -> Looked
-    requires { ⌜ Sound access rev (now t) ⌝ }
-    ensures { λ r. ⌜ (r .size ≡ sizeOf (now (t .entry))) × (r .inheritable ≡ heritable (now (t .entry))) ⌝ }
-{
-    match list::entry_of(t, rev) {
-        Checked::Good(e) => Looked {
-            size: e.size,
-            inheritable: has(e.flags, 3),
-        },
-        Checked::Bad(_) => Looked {
-            size: 0,
-            inheritable: false,
-        },
-    }
-}
-
-// Whether one of the n entries of a list is inheritable.
+// Whether one of the n entries of a list is inheritable: the search ends at the first that is.
 pub(crate) fn any_heritable(list: &[u8], rev: u8, n: usize) -> bool
     requires { ⌜ Passes access rev n (drop 8 (now list)) ⌝ }
     ensures { λ r. ⌜ r ≡ anyHeritable (cut n (drop 8 (now (list .entry)))) ⌝ }
 {
-    let mut found = false;
     let mut at: usize = 8;
     let mut left = n;
     while 0 < left {
-        let one = look_at(&list[at..], rev);
-        found = either(found, one.inheritable);
-        at += one.size;
+        let look = list::look_at(&list[at..]);
+        if has(look.flags, 3) {
+            return true;
+        }
+        at += look.size;
         left -= 1;
     }
-    found
+    false
 }

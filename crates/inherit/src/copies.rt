@@ -5,11 +5,12 @@ ghost use mathlib.Core.List.{List};
 ghost use Prim.Native.Nat.{ℕ, _≤_};
 ghost use lib.ListN.{take};
 ghost use Rattle.list.specs.Bytes.{guidAt, has as Given·has, among as Copies·among};
-ghost use Rattle.list.specs.Entry.{objectKind, fieldsOf};
+ghost use Rattle.list.specs.Entry.{objectKind, flagsOf};
+ghost use Rattle.list.specs.Look.{lookOf};
 ghost use Rattle.inherit.specs.Copies.{takesFirst};
 ghost use Rattle.inherit.specs.Inner.Emit.{givenBy, takesBy, flagsBy};
 use crate::Mapping;
-use list::Entry;
+use list::Look;
 
 // A pass over the entries of a list: the parent's first part, its second, the creator's own entries, all of the default list.
 pub enum Pass {
@@ -17,6 +18,13 @@ pub enum Pass {
     Second,
     Own,
     All,
+}
+
+// Which list entries come from: the creator's own, the parent's, the default list.
+pub enum Origin {
+    Own,
+    Parent,
+    Default,
 }
 
 // What says how an entry is copied, but for the object types and the identities; `count` is how many object types there are.
@@ -73,14 +81,14 @@ fn inherits(container: bool, flags: u8) -> bool
     has(flags, 1)
 }
 
-fn takes_first(t: &[u8], e: Entry, terms: Terms, types: [[u8; 16]; 4]) -> bool
-    requires { ⌜ (terms .count ≤ 4) × (e ≡ fieldsOf (now t)) ⌝ }
+fn takes_first(t: &[u8], look: Look, terms: Terms, types: [[u8; 16]; 4]) -> bool
+    requires { ⌜ (terms .count ≤ 4) × (look ≡ lookOf (now t)) ⌝ }
     ensures { λ r. ⌜ ((owner group : List ℕ) → r ≡ takesFirst (givenBy terms types owner group) (now (t .entry))) ⌝ }
 {
-    if !inherits(terms.container, e.flags) {
+    if !inherits(terms.container, look.flags) {
         return false;
     }
-    type_applies(t, e.kind, e.word, types, terms.count)
+    type_applies(t, look.kind, look.word, types, terms.count)
 }
 
 // Only for a container: an inheritable entry without NP.
@@ -96,27 +104,32 @@ fn takes_second(container: bool, flags: u8) -> bool
     !has(flags, 4)
 }
 
-// Whether a pass takes the entry that `t` begins with.
-pub(crate) fn takes(pass: Pass, t: &[u8], e: Entry, terms: Terms, types: [[u8; 16]; 4]) -> bool
-    requires { ⌜ (terms .count ≤ 4) × (e ≡ fieldsOf (now t)) ⌝ }
-    ensures { λ r. ⌜ ((owner group : List ℕ) → r ≡ takesBy (givenBy terms types owner group) pass (now (t .entry))) ⌝ }
-{
-    match pass {
-        Pass::First => takes_first(t, e, terms, types),
-        Pass::Second => takes_second(terms.container, e.flags),
-        Pass::Own => !has(e.flags, 16),
-        Pass::All => true,
-    }
+// Whether a pass takes an entry, and the flags of its copy.
+pub struct Picked {
+    pub taken: bool,
+    pub flags: u8,
 }
 
-// The flags of a copy.
-pub(crate) fn new_flags(pass: Pass, flags: u8) -> u8
-    ensures { λ r. ⌜ r ≡ flagsBy pass flags ⌝ }
+// What a pass does with the entry that `t` begins with.
+pub(crate) fn pick(pass: Pass, t: &[u8], look: Look, terms: Terms, types: [[u8; 16]; 4]) -> Picked
+    requires { ⌜ (terms .count ≤ 4) × (look ≡ lookOf (now t)) ⌝ }
+    ensures { λ r. ⌜ ((owner group : List ℕ) → r .taken ≡ takesBy (givenBy terms types owner group) pass (now (t .entry)))
+        × (r .flags ≡ flagsBy pass (flagsOf (now (t .entry)))) ⌝ }
 {
+    let flags = look.flags;
     match pass {
-        Pass::First => 16,
-        Pass::Second => flags | 24,
-        Pass::Own => flags,
-        Pass::All => flags,
+        Pass::First => Picked {
+            taken: takes_first(t, look, terms, types),
+            flags: 16,
+        },
+        Pass::Second => Picked {
+            taken: takes_second(terms.container, flags),
+            flags: flags | 24,
+        },
+        Pass::Own => Picked {
+            taken: !has(flags, 16),
+            flags,
+        },
+        Pass::All => Picked { taken: true, flags },
     }
 }

@@ -51,9 +51,13 @@ fn mends(rule: u32) -> bool
 }
 
 // The mask as the last step leaves it: the printed text's; or mended, with the fourth mapping joined, and then without the generic bits.
+// Where it has none of these bits it stays as it came.
 pub(crate) fn last_mask(rule: u32, mapping: Mapping, mask: u32) -> u32
     ensures { λ r. ⌜ r ≡ lastMask rule mapping mask ⌝ }
 {
+    if mask < 0x1000_0000 {
+        return mask;
+    }
     let three = mapped(mapping, mask);
     let four = joined(0x1000_0000, mask, three, mapping.all);
     if mends(rule) {
@@ -64,7 +68,7 @@ pub(crate) fn last_mask(rule: u32, mapping: Mapping, mask: u32) -> u32
 }
 
 // An entry's first eight bytes.
-fn put_head(out: &mut [u8], kind: u8, flags: u8, size: usize, mask: u32)
+pub(crate) fn put_head(out: &mut [u8], kind: u8, flags: u8, size: usize, mask: u32)
     requires { ⌜ 8 ≤ length (now out) ⌝ }
     ensures { λ _. ⌜ now (out .exit) ≡ front ((kind ∷ flags ∷ []) ++ (spell 2 size ++ spell 4 mask)) (now (out .entry)) ⌝ }
 {

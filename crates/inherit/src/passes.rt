@@ -1,35 +1,30 @@
 // A pass over a list: how much it gives, and the entries themselves, straight into what is left of the result.
 ghost use mathlib.Core.Path.{_≡_};
 ghost use mathlib.Core.List.{List, flatten};
-ghost use mathlib.Core.Bool.{_||_};
-ghost use Prim.Native.Nat.{ℕ, _+_, _-_, _*_, _≤_};
+ghost use mathlib.Core.Bool.{cond, _||_};
+ghost use Prim.Native.Nat.{ℕ, _*_, _≤_};
 ghost use lib.ListN.{length, drop};
 ghost use Rattle.list.specs.Bytes.{front};
-ghost use Rattle.list.specs.Entry.{access, fieldsOf, sizeOf, middleOf, tailOf, entryBytes};
-ghost use Rattle.list.specs.Good.{Sound, Passes};
-ghost use Rattle.inherit.specs.Inner.Emit.{givenBy, takesBy, Lies, putIn, emitOf, emitted, measureOf, both as Emit·both};
-use crate::Mapping;
+ghost use Rattle.list.specs.Entry.{access, sizeOf, entryBytes};
+ghost use Rattle.list.specs.Look.{lookOf};
+ghost use Rattle.list.specs.List.{cut};
+ghost use Rattle.list.specs.Good.{Sound, Passes, Bounds};
+ghost use Rattle.inherit.specs.Inner.Emit.{givenBy, copyParts, copyLength, emitOf, emitted, both as Emit·both, timesOf, measureFrom, measureAll};
+use crate::copies::Origin;
 use crate::copies::Pass;
 use crate::copies::Terms;
-use crate::copies::new_flags;
-use crate::copies::takes;
+use crate::copies::pick;
 use crate::last::in_place;
 use crate::last::last_mask;
 use crate::last::put_entry;
-use list::Checked;
-use list::Entry;
+use crate::last::put_head;
+use list::Look;
 
 // How many bytes and entries, and whether an object entry is among them.
 pub struct Measure {
     pub bytes: usize,
     pub count: usize,
     pub object: bool,
-}
-
-// The fields of an entry, and whether the pass takes it.
-pub struct Picked {
-    pub taken: bool,
-    pub entry: Entry,
 }
 
 // One entry measured: its own size, and what it gives.
@@ -44,66 +39,52 @@ pub struct Written {
     pub bytes: usize,
 }
 
-fn pick(t: &[u8], rev: u8, pass: Pass, terms: Terms, types: [[u8; 16]; 4]) -> Picked
-    requires { ⌜ (terms .count ≤ 4) × Sound access rev (now t) ⌝ }
-    ensures { λ r. ⌜ (r .entry ≡ fieldsOf (now (t .entry)))
-        × ((owner group : List ℕ) → r .taken ≡ takesBy (givenBy terms types owner group) pass (now (t .entry))) ⌝ }
-{
-    match list::entry_of(t, rev) {
-        Checked::Good(e) => Picked {
-            taken: takes(pass, t, e, terms, types),
-            entry: e,
-        },
-        Checked::Bad(_) => Picked {
-            taken: false,
-            entry: Entry {
-                kind: 0,
-                flags: 0,
-                size: 0,
-                mask: 0,
-                word: 0,
-                sid: 0,
-                sid_len: 0,
-            },
-        },
-    }
-}
-
 // How long a copy of the entry that `t` begins with is.
-fn copy_len<'a>(
-    t: &'a [u8],
-    sid: usize,
-    end: usize,
-    size: usize,
-    owner: &'a [u8],
-    group: &'a [u8],
-) -> usize
-    requires { ⌜ Lies (now t) sid end size × (length (now owner) ≤ 68) × (length (now group) ≤ 68) × (size ≤ 65535) ⌝ }
-    ensures { λ r. ⌜ r ≡ sid + length (putIn (now (t .entry)) (now (owner .entry)) (now (group .entry))) + (size - end) ⌝ }
+fn copy_len<'a>(t: &'a [u8], look: Look, owner: &'a [u8], group: &'a [u8]) -> usize
+    requires { ⌜ Bounds (now t) × (look ≡ lookOf (now t)) × (look .size ≤ 65535) × (length (now owner) ≤ 68) × (length (now group) ≤ 68) ⌝ }
+    ensures { λ r. ⌜ r ≡ copyLength (now (t .entry)) (now (owner .entry)) (now (group .entry)) ⌝ }
 {
+    let sid = look.sid;
+    if list::placeholder_at(t, sid) == 0 {
+        return look.size;
+    }
+    let end = sid + list::sid_len_in(t, sid);
     let put_in = in_place(&t[sid..end], owner, group);
-    sid + put_in.len() + (size - end)
+    sid + put_in.len() + (look.size - end)
 }
 
-// A copy of the entry that `t` begins with, on the front of what is left of the result.
+// A copy of the entry that `t` begins with, on the front of what is left of the result. Unless its SID is a placeholder, only its head changes.
 fn put_copy<'a>(
     out: &mut [u8],
     t: &'a [u8],
-    sid: usize,
-    end: usize,
-    size: usize,
-    kind: u8,
+    look: Look,
     flags: u8,
     mask: u32,
     owner: &'a [u8],
     group: &'a [u8],
 ) -> usize
-    requires { ⌜ Lies (now t) sid end size × (sid + length (putIn (now t) (now owner) (now group)) + (size - end) ≤ length (now out)) ⌝ }
-    ensures { λ r. ⌜ (r ≡ sid + length (putIn (now (t .entry)) (now (owner .entry)) (now (group .entry))) + (size - end))
-        × (now (out .exit) ≡ front (entryBytes (record { kind = kind; flags = flags; mask = mask; middle = middleOf (now (t .entry)); sid = putIn (now (t .entry)) (now (owner .entry)) (now (group .entry)); tail = tailOf (now (t .entry)) })) (now (out .entry))) ⌝ }
+    requires { ⌜ Bounds (now t) × (look ≡ lookOf (now t)) × (copyLength (now t) (now owner) (now group) ≤ length (now out)) ⌝ }
+    ensures { λ r. ⌜ (r ≡ copyLength (now (t .entry)) (now (owner .entry)) (now (group .entry)))
+        × (now (out .exit) ≡ front (entryBytes (copyParts flags mask (now (t .entry)) (now (owner .entry)) (now (group .entry)))) (now (out .entry))) ⌝ }
 {
+    let sid = look.sid;
+    let size = look.size;
+    if list::placeholder_at(t, sid) == 0 {
+        put_head(out, look.kind, flags, size, mask);
+        list::put(&mut out[8..], &t[8..size]);
+        return size;
+    }
+    let end = sid + list::sid_len_in(t, sid);
     let put_in = in_place(&t[sid..end], owner, group);
-    put_entry(out, kind, flags, mask, &t[8..sid], put_in, &t[end..size])
+    put_entry(
+        out,
+        look.kind,
+        flags,
+        mask,
+        &t[8..sid],
+        put_in,
+        &t[end..size],
+    )
 }
 
 pub(crate) fn either(a: bool, b: bool) -> bool
@@ -117,7 +98,7 @@ pub(crate) fn either(a: bool, b: bool) -> bool
 
 // Two measures together.
 pub(crate) fn both(a: Measure, b: Measure) -> Measure
-    requires { ⌜ (a .bytes ≤ 17179869184) × (b .bytes ≤ 17179869184) × (a .count ≤ 4294967296) × (b .count ≤ 4294967296) ⌝ }
+    requires { ⌜ (a .bytes ≤ 34359738368) × (b .bytes ≤ 34359738368) × (a .count ≤ 4294967296) × (b .count ≤ 4294967296) ⌝ }
     ensures { λ r. ⌜ r ≡ Emit·both a b ⌝ }
 {
     Measure {
@@ -127,11 +108,39 @@ pub(crate) fn both(a: Measure, b: Measure) -> Measure
     }
 }
 
+fn once(taken: bool) -> usize
+    ensures { λ r. ⌜ r ≡ cond taken 1 0 ⌝ }
+{
+    if taken { 1 } else { 0 }
+}
+
+// How many copies the entry that `t` begins with gives; one of the parent's may give one to each part.
+fn copies_of(origin: Origin, t: &[u8], look: Look, terms: Terms, types: [[u8; 16]; 4]) -> usize
+    requires { ⌜ (terms .count ≤ 4) × (look ≡ lookOf (now t)) ⌝ }
+    ensures { λ r. ⌜ ((owner group : List ℕ) → r ≡ timesOf (givenBy terms types owner group) origin (now (t .entry))) ⌝ }
+{
+    match origin {
+        Origin::Own => {
+            let own = pick(Pass::Own, t, look, terms, types);
+            once(own.taken)
+        }
+        Origin::Parent => {
+            let first = pick(Pass::First, t, look, terms, types);
+            let second = pick(Pass::Second, t, look, terms, types);
+            once(first.taken) + once(second.taken)
+        }
+        Origin::Default => {
+            let all = pick(Pass::All, t, look, terms, types);
+            once(all.taken)
+        }
+    }
+}
+
 // What the entry that `t` begins with gives, measured.
 fn measure_one<'a>(
     t: &'a [u8],
     rev: u8,
-    pass: Pass,
+    origin: Origin,
     terms: Terms,
     types: [[u8; 16]; 4],
     owner: &'a [u8],
@@ -139,12 +148,12 @@ fn measure_one<'a>(
 ) -> Measured
     requires { ⌜ Sound access rev (now t) × (terms .count ≤ 4) × (length (now owner) ≤ 68) × (length (now group) ≤ 68) ⌝ }
     ensures { λ r. ⌜ (r .size ≡ sizeOf (now (t .entry)))
-        × (r .gives ≡ measureOf (emitOf (givenBy terms types (now (owner .entry)) (now (group .entry))) pass (now (t .entry)))) ⌝ }
+        × (r .gives ≡ measureFrom (givenBy terms types (now (owner .entry)) (now (group .entry))) origin (now (t .entry))) ⌝ }
 {
-    let picked = pick(t, rev, pass, terms, types);
-    let e = picked.entry;
-    let size = e.size;
-    if !picked.taken {
+    let look = list::look_at(t);
+    let size = look.size;
+    let times = copies_of(origin, t, look, terms, types);
+    if times == 0 {
         return Measured {
             size,
             gives: Measure {
@@ -154,13 +163,13 @@ fn measure_one<'a>(
             },
         };
     }
-    let bytes = copy_len(t, e.sid, e.sid + e.sid_len, size, owner, group);
+    let long = copy_len(t, look, owner, group);
     Measured {
         size,
         gives: Measure {
-            bytes,
-            count: 1,
-            object: list::is_object(e.kind),
+            bytes: times * long,
+            count: times,
+            object: list::is_object(look.kind),
         },
     }
 }
@@ -182,35 +191,23 @@ fn write_one<'a>(
         × (r .bytes ≡ length (flatten (emitOf (givenBy terms types (now (owner .entry)) (now (group .entry))) pass (now (t .entry)))))
         × (now (out .exit) ≡ front (flatten (emitOf (givenBy terms types (now (owner .entry)) (now (group .entry))) pass (now (t .entry)))) (now (out .entry))) ⌝ }
 {
-    let picked = pick(t, rev, pass, terms, types);
-    let e = picked.entry;
-    let size = e.size;
+    let look = list::look_at(t);
+    let size = look.size;
+    let picked = pick(pass, t, look, terms, types);
     if !picked.taken {
         return Written { size, bytes: 0 };
     }
-    let flags = new_flags(pass, e.flags);
-    let mask = last_mask(terms.rule, terms.mapping, e.mask);
-    let bytes = put_copy(
-        out,
-        t,
-        e.sid,
-        e.sid + e.sid_len,
-        size,
-        e.kind,
-        flags,
-        mask,
-        owner,
-        group,
-    );
+    let mask = last_mask(terms.rule, terms.mapping, look.mask);
+    let bytes = put_copy(out, t, look, picked.flags, mask, owner, group);
     Written { size, bytes }
 }
 
-// What the n entries of a list give, measured.
+// What the n entries of a list give, measured: all copies of an entry in one look at it.
 pub(crate) fn measure_pass<'a>(
     list: &'a [u8],
     rev: u8,
     n: usize,
-    pass: Pass,
+    origin: Origin,
     terms: Terms,
     types: [[u8; 16]; 4],
     owner: &'a [u8],
@@ -218,8 +215,8 @@ pub(crate) fn measure_pass<'a>(
 ) -> Measure
     requires { ⌜ Passes access rev n (drop 8 (now list)) × (n ≤ 65535) ⌝ }
     requires { ⌜ (terms .count ≤ 4) × (length (now owner) ≤ 68) × (length (now group) ≤ 68) ⌝ }
-    ensures { λ r. ⌜ (r ≡ measureOf (emitted (givenBy terms types (now (owner .entry)) (now (group .entry))) pass n (now (list .entry))))
-        × (r .bytes ≤ 65603 * n) × (r .count ≤ n) ⌝ }
+    ensures { λ r. ⌜ (r ≡ measureAll (givenBy terms types (now (owner .entry)) (now (group .entry))) origin (cut n (drop 8 (now (list .entry)))))
+        × (r .bytes ≤ 131206 * n) × (r .count ≤ 2 * n) ⌝ }
 {
     let mut total = Measure {
         bytes: 0,
@@ -229,7 +226,7 @@ pub(crate) fn measure_pass<'a>(
     let mut at: usize = 8;
     let mut left = n;
     while 0 < left {
-        let one = measure_one(&list[at..], rev, pass, terms, types, owner, group);
+        let one = measure_one(&list[at..], rev, origin, terms, types, owner, group);
         let gives = one.gives;
         total = both(total, gives);
         at += one.size;

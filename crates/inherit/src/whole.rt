@@ -11,6 +11,7 @@ ghost use Rattle.inherit.specs.Inner.Plan.{gathered, onward, resultBy, G
 ghost use Rattle.inherit.specs.Inner.Ending.{Ends};
 use crate::Computed;
 use crate::branch::Plan;
+use crate::copies::Origin;
 use crate::copies::Pass;
 use crate::copies::Terms;
 use crate::passes::Measure;
@@ -43,7 +44,7 @@ pub(crate) fn measure_all<'a>(
 ) -> Measure
     requires { ⌜ Ready parts (now parent) (now creator) (now default) ⌝ }
     requires { ⌜ (terms .count ≤ 4) × (length (now owner) ≤ 68) × (length (now group) ≤ 68) ⌝ }
-    ensures { λ r. ⌜ (r ≡ measureOf (gathered (givenBy terms types (now (owner .entry)) (now (group .entry))) parts (now (parent .entry)) (now (creator .entry)) (now (default .entry)))) × (r .bytes ≤ 17197170420) ⌝ }
+    ensures { λ r. ⌜ (r ≡ measureOf (gathered (givenBy terms types (now (owner .entry)) (now (group .entry))) parts (now (parent .entry)) (now (creator .entry)) (now (default .entry)))) × (r .bytes ≤ 25795755630) ⌝ }
 {
     let o = parts.own;
     let p = parts.parent;
@@ -52,27 +53,17 @@ pub(crate) fn measure_all<'a>(
         creator,
         o.rev,
         o.count,
-        Pass::Own,
+        Origin::Own,
         terms,
         types,
         owner,
         group,
     );
-    let first = measure_pass(
+    let inherited = measure_pass(
         parent,
         p.rev,
         p.count,
-        Pass::First,
-        terms,
-        types,
-        owner,
-        group,
-    );
-    let second = measure_pass(
-        parent,
-        p.rev,
-        p.count,
-        Pass::Second,
+        Origin::Parent,
         terms,
         types,
         owner,
@@ -82,13 +73,13 @@ pub(crate) fn measure_all<'a>(
         default,
         d.rev,
         d.count,
-        Pass::All,
+        Origin::Default,
         terms,
         types,
         owner,
         group,
     );
-    both(own, both(first, both(second, all)))
+    both(own, both(inherited, all))
 }
 
 // A pass that writes from `at` on, straight into what is left of the result: where its entries end.

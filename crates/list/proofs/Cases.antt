@@ -1,14 +1,16 @@
 -- `entryOf` by cases: each refusal from the test that it fails and those before it, the fields of a good entry from all nine, and back.
-use mathlib.Core.Path.{_≡_}
+use mathlib.Core.Path.{_≡_, refl}
 use mathlib.Core.Bool.{true, false}
 use mathlib.Core.List.{List}
 use Prim.Native.Nat.{ℕ, _+_, _≤_, _<_}
 use native.Mathlib.Omega.{arith}
-use lib.ListN.{length}
+use lib.ListN.{length, drop}
 use borrow.Author.Tests.{le-leb}
 use Rattle.list.specs.Order.{need}
 use Rattle.list.specs.Entry.{Family, entryOf, kindOk, flagsOk, tailOk, kindOf, sizeOf, flagsOf, headOf, wordOf, sidAt, sidLenOf, sidEnd, fieldsOf}
+use Rattle.list.specs.Look.{lookOf}
 use Rattle.list.specs.Good.{Sound}
+use Rattle.list.specs.Identity.{sidLen}
 use Rattle.list.specs.Inner.Begins.{Begun}
 use Rattle.list.specs.declared.entries.Entry.{Entry}
 use Rattle.list.specs.declared.entries.Checked.{Checked}
@@ -89,3 +91,9 @@ is-good f rev t s =
 
 pub fields : (f : Family) (rev : ℕ) (t : List ℕ) (e : Entry) → entryOf f rev t ≡ Good e → e ≡ fieldsOf t
 fields f rev t e h = let g = is-good f rev t (sound f rev t e h) in cc
+
+-- a look at a good entry finds the fields that the check gave, and where its SID begins the reader of lengths finds its length
+pub look-good : (f : Family) (rev : ℕ) (t : List ℕ) (e : Entry) → entryOf f rev t ≡ Good e
+    → (lookOf t ≡ record { kind = e .kind; flags = e .flags; size = e .size; mask = e .mask; word = e .word; sid = e .sid })
+    × (sidLen (drop (lookOf t .sid) t) ≡ e .«sid_len»)
+look-good f rev t e h = let q = fields f rev t e h in rw q (refl, refl)

@@ -21,6 +21,12 @@ use Rattle.list.proofs.identities.same_guid.Kinds as same-guid
 use Rattle.list.proofs.identities.same_guid.Reads as same-guid-reads
 use Rattle.list.proofs.identities.sid_in.Kinds as sid-in
 use Rattle.list.proofs.identities.sid_in.Reads as sid-in-reads
+use Rattle.list.proofs.identities.sid_len_in.Kinds as sid-len-in
+use Rattle.list.proofs.identities.sid_len_in.Reads as sid-len-in-reads
+use Rattle.list.proofs.looks.look_at.Kinds as look-at
+use Rattle.list.proofs.looks.look_at.Reads as look-at-reads
+use Rattle.list.proofs.looks.placeholder_at.Kinds as placeholder-at
+use Rattle.list.proofs.looks.placeholder_at.Reads as placeholder-at-reads
 use Rattle.list.proofs.numbers.byte_in.Kinds as byte-in
 use Rattle.list.proofs.numbers.byte_in.Reads as byte-in-reads
 use Rattle.list.proofs.numbers.half_in.Kinds as half-in
@@ -68,6 +74,15 @@ same-guid-determined κs a x y s t p q = p ∙ sym q
 
 pub sid-in-determined : OneResult 1 sid-in.ps sid-in.r sid-in-reads.Learnt
 sid-in-determined κs a x y s t p q = p ∙ sym q
+
+pub sid-len-in-determined : OneResult 1 sid-len-in.ps sid-len-in.r sid-len-in-reads.Learnt
+sid-len-in-determined κs a x y s t p q = p ∙ sym q
+
+pub look-at-determined : OneResult 1 look-at.ps look-at.r look-at-reads.Learnt
+look-at-determined κs a x y s t p q = p ∙ sym q
+
+pub placeholder-at-determined : OneResult 1 placeholder-at.ps placeholder-at.r placeholder-at-reads.Learnt
+placeholder-at-determined κs a x y s t p q = p ∙ sym q
 
 pub byte-in-determined : OneResult 1 byte-in.ps byte-in.r byte-in-reads.Learnt
 byte-in-determined κs a x y s t p q = p ∙ sym q

@@ -4,11 +4,12 @@ use mathlib.Core.Bool.{true, false}
 use mathlib.Core.List.{List, [], _∷_, _++_, map}
 use mathlib.Core.Option.{none, some}
 use Prim.Native.Nat.{ℕ}
-use lib.ListN.{take, replicate}
+use lib.ListN.{take, drop, replicate}
 use Rattle.list.specs.Bytes.{le, spell, has, sameBytes, among, part, putOn, putAt, guidAt}
 use Rattle.list.specs.Identity.{sidLen, wholeSid, isSid, placeholderOf, identityOf, bytesOf, placeholderSid, madeOf}
 use Rattle.list.specs.Order.{need}
 use Rattle.list.specs.Entry.{access, plainOf, objectOf, objectKind, kindOk, flagsOk, headOf, wordAfter, tailOk, entryOf}
+use Rattle.list.specs.Look.{lookOf}
 use Rattle.list.specs.List.{lent, revOk, headerOk, onGood, walkOf, finish, checkOf, withRow, readOf, offsets, rowBy, cut, entriesOf}
 use Rattle.list.specs.Spare.{withSpare, bareBy, bare, sizeSum}
 use Rattle.list.specs.Answer.{Values, readDone, refused, readValues}
@@ -170,6 +171,16 @@ pub rows-worked :
     × ((rowBy (readOf access two 1) two (9 ∷ []) ≡ 9 ∷ []) × (rowBy (readOf access [] 3) [] (9 ∷ 9 ∷ 9 ∷ []) ≡ 9 ∷ 9 ∷ 9 ∷ []))
 unfolding rowBy offsets readOf withRow checkOf headerOk revOk walkOf onGood finish entry-open
 rows-worked = (refl, (refl, refl))
+
+-- ---- a look (RULES 1.5) at the second of two entries; at one of two GUIDs that is cut in its word, at one that is cut in its mask, at nothing
+
+pub looks-worked :
+    (lookOf (drop 28 two) ≡ record { kind = 1; flags = 31; size = 16; mask = 0; word = 0; sid = 8 })
+    × ((lookOf (0x05 ∷ 0x02 ∷ 0x38 ∷ 0x01 ∷ 1 ∷ 2 ∷ 3 ∷ 4 ∷ 3 ∷ []) ≡ record { kind = 5; flags = 2; size = 312; mask = 0x04030201; word = 3; sid = 44 })
+    × ((lookOf (0x00 ∷ 0x02 ∷ 0x10 ∷ 0x00 ∷ 1 ∷ 2 ∷ []) ≡ record { kind = 0; flags = 2; size = 16; mask = 0x0201; word = 0; sid = 8 })
+    × (lookOf [] ≡ record { kind = 0; flags = 0; size = 0; mask = 0; word = 0; sid = 8 })))
+unfolding le headOf objectKind objectOf wordAfter
+looks-worked = (refl, (refl, (refl, refl)))
 
 -- ---- spare bytes (RULES 1.4): such a list of one entry with three, without them, and with another; one that is refused has none; the sizes of two entries
 

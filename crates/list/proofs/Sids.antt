@@ -4,7 +4,8 @@ use mathlib.Core.Bool.{Bool, true, false, cond, _&&_, and-assoc}
 use mathlib.Core.List.{List, [], _∷_, _++_}
 use Prim.Native.Nat.{ℕ, _+_, _*_, _≤_, _<_}
 use native.Mathlib.Omega.{arith}
-use lib.ListN.{length, take, drop, replicate, getD, length-append, length-drop, take-append-drop, List·getD-append}
+use native.Mathlib.Decide.{ℕ-discrete}
+use lib.ListN.{length, take, drop, replicate, getD, length-append, length-take, length-drop, take-append-drop, List·getD-append}
 use lib.Seq.{take-at, drop-drop, length-take-le}
 use lib.Dec.{eqb, leb, ltb}
 use borrow.Author.Tests.{eq-eqb, ne-eqb, lt-ltb, le-leb, lt-leb, eqb-true, leb-true, ltb-true}
@@ -179,6 +180,28 @@ long-sid s h =
 pub not-twelve : (s : List ℕ) → (length s ≡ 12 → ⊥) → placeholderOf s ≡ 0
 unfolding placeholderOf
 not-twelve s f = rw (same-length s (creator 0) f, same-length s (creator 1) f)
+
+-- fewer bytes hold none
+pub short-placeholder : (n : ℕ) (s : List ℕ) → length s < 12 → placeholderOf (take n s) ≡ 0
+short-placeholder n s h = not-twelve (take n s) (λ e. omega (arith, length-take n s))
+
+-- and it says its own length: so the twelve bytes that a SID begins with tell, however long it is
+says-twelve : (k n : ℕ) (s : List ℕ) → take n s ≡ creator k → sidLen s ≡ 12
+unfolding sidLen
+says-twelve k n s e =
+    ap sidLen (sym (take-append-drop n s) ∙ ap (λ (l : List ℕ). l ++ drop n s) e) ∙ sid-append (creator k) (drop n s) (omega arith)
+
+other-length : (n : ℕ) (s : List ℕ) → (sidLen s ≡ 12 → ⊥) → placeholderOf (take n s) ≡ 0
+unfolding placeholderOf
+other-length n s f =
+    rw (same-no (take n s) (creator 0) (λ e. f (says-twelve 0 n s e)), same-no (take n s) (creator 1) (λ e. f (says-twelve 1 n s e)))
+
+pub placeholder-twelve : (s : List ℕ) → placeholderOf (take (sidLen s) s) ≡ placeholderOf (take 12 s)
+placeholder-twelve s =
+    elim (ℕ-discrete (sidLen s) 12) [
+      | yes e ↦ ap (λ (n : ℕ). placeholderOf (take n s)) e
+      | no f ↦ other-length (sidLen s) s f ∙ sym (other-length 12 s f)
+    ]
 
 -- so a SID is whole in front of anything
 pub whole-joined : (s u : List ℕ) → isSid s ≡ true → wholeSid (s ++ u) ≡ length s

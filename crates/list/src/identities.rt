@@ -4,6 +4,7 @@ ghost use Prim.Native.Nat.{_+_, _≤_};
 ghost use lib.ListN.{length, drop};
 ghost use Rattle.list.specs.Bytes.{sameBytes, guidAt};
 ghost use Rattle.list.specs.Identity.{sidLen, wholeSid, isSid, placeholderOf, identityOf, bytesOf, madeOf, placeholderSid};
+use crate::numbers::byte_in;
 use crate::numbers::put;
 use crate::numbers::same_bytes;
 
@@ -228,6 +229,20 @@ pub(crate) fn sid_at(s: &[u8], at: usize) -> usize
         return 0;
     }
     8 + 4 * (n as usize)
+}
+
+// The length of the SID that begins at `at`, where bytes may be missing: they count as 0.
+pub fn sid_len_in(s: &[u8], at: usize) -> usize
+    ensures { λ r. ⌜ r ≡ sidLen (drop at (now (s .entry))) ⌝ }
+{
+    if byte_in(s, at) != 1 {
+        return 0;
+    }
+    let count = byte_in(s, at + 1);
+    if 15 < count {
+        return 0;
+    }
+    8 + 4 * (count as usize)
 }
 
 // The length of the SID that lies whole at `at`, 0 where none does.

@@ -2,6 +2,7 @@
 mod entries;
 mod identities;
 mod lists;
+mod looks;
 mod numbers;
 
 pub use entries::Checked;
@@ -15,9 +16,13 @@ pub use identities::identity;
 pub use identities::placeholder_of;
 pub use identities::same_guid;
 pub use identities::sid_in;
+pub use identities::sid_len_in;
 pub use lists::Reading;
 pub use lists::check;
 pub use lists::read;
+pub use looks::Look;
+pub use looks::look_at;
+pub use looks::placeholder_at;
 pub use numbers::byte_in;
 pub use numbers::half_in;
 pub use numbers::part_of;

@@ -2,6 +2,7 @@
 ghost use mathlib.Core.Path.{_≡_};
 ghost use Prim.Native.Nat.{_+_, _≤_, min};
 ghost use lib.ListN.{length, drop, getD};
+ghost use lib.Dec.{leb};
 ghost use Rattle.list.specs.Bytes.{le, sameBytes, part, putOn};
 
 // The 16-bit number at `at`.
@@ -48,23 +49,35 @@ pub fn byte_in(s: &[u8], at: usize) -> u8
     0
 }
 
+// Whether the n bytes at `at` are all there.
+fn holds(s: &[u8], at: usize, n: usize) -> bool
+    ensures { λ r. ⌜ r ≡ leb (at + n) (length (now (s .entry))) ⌝ }
+{
+    if s.len() < n {
+        return false;
+    }
+    at <= s.len() - n
+}
+
 // The 16-bit number at `at`; bytes that are not there count as 0.
 pub fn half_in(s: &[u8], at: usize) -> u16
     ensures { λ r. ⌜ r ≡ le 2 (drop at (now (s .entry))) ⌝ }
 {
-    if at < s.len() {
-        return (s[at] as u16) + 256 * (byte_in(s, at + 1) as u16);
+    if holds(s, at, 2) {
+        return half_at(s, at);
     }
-    0
+    byte_in(s, at) as u16
 }
 
 // The 32-bit number at `at`; bytes that are not there count as 0.
 pub fn word_in(s: &[u8], at: usize) -> u32
     ensures { λ r. ⌜ r ≡ le 4 (drop at (now (s .entry))) ⌝ }
 {
+    if holds(s, at, 4) {
+        return word_at(s, at);
+    }
     if at < s.len() {
-        let high = least(at + 2, s.len());
-        return (half_in(s, at) as u32) + 65536 * (half_in(s, high) as u32);
+        return (half_in(s, at) as u32) + 65536 * (byte_in(s, at + 2) as u32);
     }
     0
 }

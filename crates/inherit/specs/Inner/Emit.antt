@@ -1,16 +1,16 @@
 -- How the code goes over a list: by passes, each entry through its pass and the last step at once.
-use mathlib.Core.Path.{_≡_}
 use Prim.Native.Nat.{ℕ, _+_}
 use mathlib.Core.List.{List, [], _∷_, _++_, flatten}
 use mathlib.Core.Bool.{Bool, true, cond, _||_}
 use lib.ListN.{length, set, take, drop}
 use lib.Bits.{bitOr}
 use Rattle.list.specs.Identity.{placeholderOf}
-use Rattle.list.specs.Entry.{access, kindOf, flagsOf, sizeOf, maskOf, sidAt, sidEnd, middleOf, sidOf, tailOf, entryBytes}
-use Rattle.list.specs.Good.{Bounds}
+use Rattle.list.specs.Entry.{access, kindOf, flagsOf, maskOf, middleOf, sidOf, tailOf, EntryParts, entryBytes}
 use Rattle.list.specs.List.{cut}
 use Rattle.inherit.specs.declared.copies.Pass.{Pass}
 use Rattle.inherit.specs.declared.copies.Pass.the-variants.{First, Second, Own, All}
+use Rattle.inherit.specs.declared.copies.Origin.{Origin}
+use Rattle.inherit.specs.declared.copies.Origin.the-variants.{Own as Origin·Own, Parent, Default}
 use Rattle.inherit.specs.declared.copies.Terms.{Terms}
 use Rattle.inherit.specs.declared.passes.Measure.{Measure}
 use Rattle.inherit.specs.Asked.{Given}
@@ -36,29 +36,22 @@ flagsBy Second flags = bitOr flags 0x18
 flagsBy Own flags = flags
 flagsBy All flags = flags
 
--- the SID of the entry that t begins with lies from sid to end, and the entry ends at size
-pub record Lies (t : List ℕ) (sid end size : ℕ) : Type 0 where
-  pub begins : sid ≡ sidAt t
-  pub ends : end ≡ sidEnd t
-  pub whole : size ≡ sizeOf t
-  pub bounds : Bounds t
-
 -- what stands in the SID's place
 abbrev pub putIn : List ℕ → List ℕ → List ℕ → List ℕ
 putIn t owner group = inPlace (placeholderOf (sidOf t)) (sidOf t) owner group
 
+-- how long a copy of the entry that t begins with is
+abbrev pub copyLength : List ℕ → List ℕ → List ℕ → ℕ
+copyLength t owner group = 8 + (length (middleOf t) + (length (putIn t owner group) + length (tailOf t)))
+
+-- the parts of a copy, with these flags and this mask
+abbrev pub copyParts : ℕ → ℕ → List ℕ → List ℕ → List ℕ → EntryParts
+copyParts flags mask t owner group =
+    record { kind = kindOf t; flags = flags; mask = mask; middle = middleOf t; sid = putIn t owner group; tail = tailOf t }
+
 -- a copy of the entry that t begins with, with its flags, as the last step leaves it
 unfoldable pub copyOf : Given → ℕ → List ℕ → List ℕ
-copyOf g flags t =
-    entryBytes
-    (record {
-      kind = kindOf t;
-      flags = flags;
-      mask = lastMask (g .rule) (g .mapping) (maskOf t);
-      middle = middleOf t;
-      sid = putIn t (g .owner) (g .group);
-      tail = tailOf t;
-    })
+copyOf g flags t = entryBytes (copyParts flags (lastMask (g .rule) (g .mapping) (maskOf t)) t (g .owner) (g .group))
 
 -- one entry: none, or the one that is written
 unfoldable pub emitOf : Given → Pass → List ℕ → List (List ℕ)
@@ -78,3 +71,21 @@ measureOf es = record { bytes = length (flatten es); count = length es; object =
 
 abbrev pub both : Measure → Measure → Measure
 both a b = record { bytes = a .bytes + b .bytes; count = a .count + b .count; object = a .object || b .object }
+
+-- how many copies an entry gives, by the list it comes from, and how much they measure
+abbrev pub once : Bool → ℕ
+once taken = cond taken 1 0
+
+unfoldable pub timesOf : Given → Origin → List ℕ → ℕ
+timesOf g Origin·Own e = once (takesBy g Own e)
+timesOf g Parent e = once (takesBy g First e) + once (takesBy g Second e)
+timesOf g Default e = once (takesBy g All e)
+
+unfoldable pub measureFrom : Given → Origin → List ℕ → Measure
+measureFrom g Origin·Own e = measureOf (emitOf g Own e)
+measureFrom g Parent e = both (measureOf (emitOf g First e)) (measureOf (emitOf g Second e))
+measureFrom g Default e = measureOf (emitOf g All e)
+
+unfoldable pub measureAll : Given → Origin → List (List ℕ) → Measure
+measureAll g o [] = measureOf []
+measureAll g o (e ∷ es) = both (measureFrom g o e) (measureAll g o es)

@@ -2,30 +2,19 @@
 use borrow.Author.Needs.{needs}
 use native.Mathlib.Omega.{arith}
 use mathlib.Core.Path.{_≡_, ap, _∙_}
-use mathlib.Core.List.{List, [], _∷_, _++_, append-assoc}
+use mathlib.Core.List.{List, _++_, append-assoc}
 use Prim.Native.Nat.{ℕ, _+_}
 use denote.Ref.{now}
 use lib.ListN.{length, length-append}
-use Rattle.list.specs.Bytes.{front, spell}
-use Rattle.list.specs.Entry.{entryBytes}
-use Rattle.list.proofs.Little.{length-spell}
+use Rattle.list.specs.Bytes.{front}
+use Rattle.list.specs.Entry.{EntryParts}
 use Rattle.list.proofs.Writes.{tail-put}
+use Rattle.inherit.proofs.Lying.{headPart, length-head, head-then}
 use Rattle.inherit.proofs.last.put_entry.Statement.{statement}
 use Rattle.inherit.proofs.last.put_entry.Tie as tie
 
-eight : (kind flags size mask : ℕ) → length ((kind ∷ flags ∷ []) ++ (spell 2 size ++ spell 4 mask)) ≡ 8
-eight kind flags size mask = omega (arith, length-append (spell 2 size) (spell 4 mask), length-spell 2 size, length-spell 4 mask)
-
-regroup : (a b c d e : List ℕ) → (((a ++ b) ++ c) ++ d) ++ e ≡ a ++ (b ++ (c ++ (d ++ e)))
-regroup a b c d e = simp append-assoc
-
-whole : (kind flags mask : ℕ) (mid sid tail : List ℕ)
-    → (kind ∷ flags ∷ []) ++ (spell 2 (8 + length mid + length sid + length tail) ++ spell 4 mask) ++ mid ++ sid ++ tail
-    ≡ entryBytes (record { kind = kind; flags = flags; mask = mask; middle = mid; sid = sid; tail = tail })
-unfolding entryBytes
-whole kind flags mask mid sid tail =
-    let e : 8 + length mid + length sid + length tail ≡ 8 + (length mid + (length sid + length tail)) = omega arith in
-    rw e (ap (λ (u : List ℕ). kind ∷ flags ∷ u) (regroup (spell 2 (8 + (length mid + (length sid + length tail)))) (spell 4 mask) mid sid tail))
+regroup : (a b c d : List ℕ) → a ++ b ++ c ++ d ≡ a ++ (b ++ (c ++ d))
+regroup a b c d = simp append-assoc
 
 add-sid-at : tie.Need-add-sid-at
 add-sid-at c = search needs
@@ -90,15 +79,17 @@ returns c =
     let sid = now (a .sid) in
     let tail = now (a .tail) in
     let d = now (a .out) in
-    let hd = (a .kind ∷ a .flags ∷ []) ++ (spell 2 (8 + length mid + length sid + length tail) ++ spell 4 (a .mask)) in
-    let k : length hd ≡ 8 = eight (a .kind) (a .flags) (8 + length mid + length sid + length tail) (a .mask) in
+    let hd = headPart (a .kind) (a .flags) (8 + length mid + length sid + length tail) (a .mask) in
+    let k : length hd ≡ 8 = length-head (a .kind) (a .flags) (8 + length mid + length sid + length tail) (a .mask) in
     let one = tail-put hd mid d (h .put-head .last .0) (p1 .put .last .0) 8 (h .put-head .ensures) (p1 .put .ensures) k (omega (arith, s .pre)) in
     let l1 = length-append hd mid in
     let two = tail-put (hd ++ mid) sid d _ (p2 .put2 .last .0) (8 + length mid) one (p2 .put2 .ensures) (omega arith) (omega (arith, s .pre)) in
     let l2 = length-append (hd ++ mid) sid in
     let three = tail-put (hd ++ mid ++ sid) tail d _ (p3 .put3 .last .0) (8 + length mid + length sid) two (p3 .put3 .ensures)
     (omega arith) (omega (arith, s .pre)) in
-    (omega arith, three ∙ ap (λ (z : List ℕ). front z d) (whole (a .kind) (a .flags) (a .mask) mid sid tail))
+    let p : EntryParts = record { kind = a .kind; flags = a .flags; mask = a .mask; middle = mid; sid = sid; tail = tail } in
+    let e = regroup hd mid sid tail ∙ head-then p (8 + length mid + length sid + length tail) (omega arith) in
+    (omega arith, three ∙ ap (λ (z : List ℕ). front z d) e)
 
 pub put-entry-spec : {M : Type 1} → statement M
 put-entry-spec =

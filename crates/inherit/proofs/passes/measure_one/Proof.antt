@@ -1,26 +1,32 @@
--- An entry that is taken or not, in the fields that `pick` found. Assumes nothing.
+-- No copy, or as many as the entry gives, each of the same length. Assumes nothing.
 use borrow.Author.Needs.{needs}
 use native.Mathlib.Omega.{arith}
-use mathlib.Core.Path.{_≡_, refl, sym, ap, _∙_}
-use mathlib.Core.Bool.{true, false}
+use mathlib.Core.Path.{_≡_, refl, sym, ap, ap₂, _∙_}
+use mathlib.Core.Bool.{false}
 use mathlib.Core.List.{List}
-use Prim.Native.Nat.{ℕ, _+_}
-use borrow.Author.Tests.{not-true, not-false}
+use Prim.Native.Nat.{ℕ, _+_, _*_, _≤_}
+use native.Mathlib.Nat.{mul-le-mul}
+use borrow.Author.Tests.{ne-eqb}
 use denote.Ref.{now}
 use lib.ListN.{drop}
+use lib.Dec.{eqb}
 use lib.Seq.{getD-drop}
+use Rattle.list.specs.Entry.{access, objectKind, sizeOf}
+use Rattle.list.specs.declared.looks.Look.{Look}
 use Rattle.list.proofs.Little.{le-lt}
-use Rattle.list.specs.declared.entries.Entry.{Entry}
+use Rattle.list.proofs.Remade.{bounds}
 use Rattle.inherit.specs.Asked.{Given}
-use Rattle.inherit.specs.Inner.Emit.{takesBy, givenBy, Lies}
-use Rattle.inherit.proofs.One.{measures, lies, gives-none, gives-one}
+use Rattle.inherit.specs.Inner.Emit.{givenBy, copyLength, timesOf}
+use Rattle.inherit.proofs.Emits.{copy-le}
+use Rattle.inherit.proofs.Measures.{measures}
+use Rattle.inherit.proofs.One.{times-le, gives-from}
 use Rattle.inherit.proofs.passes.measure_one.Statement.{statement}
 use Rattle.inherit.proofs.passes.measure_one.Tie as tie
 
--- once the entry's fields are known
-module _ (c : tie.After-pick) where
+-- once it is known how many copies there are
+module _ (c : tie.After-copies-of) where
   abbrev start : tie.Start
-  start = c .before .before .before .before
+  start = c .before .before .before .before .before
 
   abbrev given : Given
   given = givenBy (start .args .terms) (start .args .types) (now (start .args .owner)) (now (start .args .group))
@@ -28,56 +34,69 @@ module _ (c : tie.After-pick) where
   abbrev bytes : List ℕ
   bytes = now (start .args .t)
 
-  abbrev fields : Entry
-  fields = c .pick .result .entry
+  abbrev long : ℕ
+  long = copyLength bytes (now (start .args .owner)) (now (start .args .group))
 
-  lies-here : Lies bytes (fields .sid) (fields .sid + fields .«sid_len») (fields .size)
-  lies-here = lies (start .args .rev) bytes (start .pre .0) fields (c .pick .ensures .0)
+  size-here : c .before .look-at .result .size ≡ sizeOf bytes
+  size-here = ap (λ (k : Look). k .size) (c .before .look-at .ensures)
 
--- the entry is taken
-taken : (c : tie.Else1) → let k = c .before .before .before in takesBy (given k) (start k .args .pass) (bytes k) ≡ true
-taken c =
-    let k = c .before .before .before in
-    let a = start k .args in
-    sym (k .pick .ensures .1 (now (a .owner)) (now (a .group))) ∙ not-false _ (c .if1 .left)
+  times-here : c .copies-of .result ≡ timesOf given (start .args .origin) bytes
+  times-here = c .copies-of .ensures (now (start .args .owner)) (now (start .args .group))
 
-pick-requires : tie.Need-pick-requires
-pick-requires c κs = search needs
+  small-here : sizeOf bytes ≤ 65535
+  small-here = omega (arith, le-lt 2 (drop 2 bytes) (λ i. rw getD-drop (c .before .before .before .before .shared-slice-known .given (2 + i) .fits)))
+
+look-at-requires : tie.Need-look-at-requires
+look-at-requires c κs = search needs
+
+copies-of-requires : tie.Need-copies-of-requires
+copies-of-requires c κs = search needs
 
 returns : tie.Need-returns
 returns c =
-    let k = c .before .before .before in
+    let k = c .before in
     let s = start k in
-    let a = s .args in
-    let q = k .pick .ensures in
-    let h : takesBy (given k) (a .pass) (bytes k) ≡ false = sym (q .1 (now (a .owner)) (now (a .group))) ∙ not-true _ (c .if1 .taken) in
-    (ap (λ (x : Entry). x .size) (q .0), sym (gives-none (a .rev) (bytes k) (s .pre .0) (fields k) (q .0) (given k) (a .pass) h))
-
-add-copy-len : tie.Need-add-copy-len
-add-copy-len c = omega (arith, lies-here (c .before .before .before .before))
+    let z = times-here k in
+    let n : timesOf (given k) (s .args .origin) (bytes k) ≡ 0 = omega arith in
+    (size-here k, sym (gives-from (s .args .rev) (bytes k) (s .pre .0) (given k) (s .args .origin) ∙ rw n (measures (omega arith) refl refl)))
 
 copy-len-requires : tie.Need-copy-len-requires
 copy-len-requires c κs =
-    let k = c .before .before .before .before in
+    let k = c .before in
     let s = start k in
-    let l = lies-here k in
-    let b = le-lt 2 (drop 2 (bytes k)) (λ i. rw getD-drop (k .before .before .before .shared-slice-known .given (2 + i) .fits)) in
-    (l, s .pre .2, s .pre .3, omega (arith, l .whole))
+    (bounds access (s .args .rev) (bytes k) (s .pre .0), k .before .look-at .ensures, omega (arith, size-here k, small-here k), s .pre .2, s .pre .3)
+
+mul-t14 : tie.Need-mul-t14
+mul-t14 c =
+    let k = c .before .before in
+    let s = start k in
+    let l = copy-le (given k) (s .args .rev) (bytes k) (s .pre .0) (s .pre .2) (s .pre .3) in
+    let t = times-le (given k) (s .args .origin) (bytes k) in
+    let m : timesOf (given k) (s .args .origin) (bytes k) * long k ≤ 2 * (sizeOf (bytes k) + 68) = mul-le-mul t l in
+    rw (times-here k, c .copy-len .ensures) (omega (arith, m, small-here k))
 
 is-object-requires : tie.Need-is-object-requires
 is-object-requires c κs = search needs
 
 returns-2 : tie.Need-returns-2
 returns-2 c =
-    let e = c .before .before .before in
-    let k = e .before .before .before in
+    let k = c .before .before .before in
     let s = start k in
-    let a = s .args in
-    let q = k .pick .ensures .0 in
-    let o = gives-one (a .rev) (bytes k) (s .pre .0) (fields k) q (given k) (a .pass) (taken e) in
-    (ap (λ (x : Entry). x .size) q, measures (c .before .copy-len .ensures) refl (c .is-object .ensures) ∙ sym o)
+    let o = c .is-object .ensures ∙ ap (λ (x : Look). objectKind (x .kind)) (k .before .look-at .ensures) in
+    let n : eqb (timesOf (given k) (s .args .origin) (bytes k)) 0 ≡ false = ne-eqb _ 0 (λ z. c .before .before .if1 .left (times-here k ∙ z)) in (
+      size-here k,
+      measures (ap₂ (λ (x y : ℕ). x * y) (times-here k) (c .before .copy-len .ensures)) (times-here k) (o ∙ rw n refl)
+          ∙ sym (gives-from (s .args .rev) (bytes k) (s .pre .0) (given k) (s .args .origin)),
+    )
 
 pub measure-one-spec : {M : Type 1} → statement M
 measure-one-spec =
     tie.close
-    (tie.spec pick-requires returns add-copy-len copy-len-requires is-object-requires returns-2)
+    (tie.spec
+    look-at-requires
+    copies-of-requires
+    returns
+    copy-len-requires
+    mul-t14
+    is-object-requires
+    returns-2)

@@ -1,7 +1,7 @@
 -- What was measured, with what is still to come, is the measure of all (`Measuring`). Assumes nothing.
 use native.Mathlib.Omega.{arith}
 use mathlib.Core.Path.{_≡_, sym, ap, subst, _∙_}
-use mathlib.Core.List.{List, flatten}
+use mathlib.Core.List.{List}
 use Prim.Native.Nat.{ℕ, _+_, _-_, _≤_}
 use denote.Ref.{now}
 use lib.ListN.{length, take, drop}
@@ -11,18 +11,18 @@ use Rattle.list.specs.Good.{Sound}
 use Rattle.list.proofs.Little.{le-lt, bytes-drop}
 use Rattle.inherit.specs.declared.passes.Measure.{Measure}
 use Rattle.inherit.specs.Asked.{Given}
-use Rattle.inherit.specs.Inner.Emit.{givenBy, emitOf, measureOf}
+use Rattle.inherit.specs.Inner.Emit.{givenBy, measureFrom}
 use Rattle.inherit.proofs.Loops.{rest-is, next-entry, inside, Measuring, measuring-none, few, measuring-turn, measured-all}
-use Rattle.inherit.proofs.One.{emit-few}
+use Rattle.inherit.proofs.One.{from-count}
 use Rattle.inherit.proofs.passes.measure_pass.Statement.{statement}
 use Rattle.inherit.proofs.passes.measure_pass.Tie as tie
 
 abbrev Inv-loop : tie.InvT-loop
-Inv-loop list rev n pass terms types owner group total₀ at₀ left₀ total at left =
-    Measuring (givenBy terms types owner group) pass rev list n total at left
+Inv-loop list rev n origin terms types owner group total₀ at₀ left₀ total at left =
+    Measuring (givenBy terms types owner group) origin rev list n total at left
 
 abbrev μ-loop : tie.MeasureT-loop
-μ-loop list rev n pass terms types owner group total₀ at₀ left₀ total at left = left
+μ-loop list rev n origin terms types owner group total₀ at₀ left₀ total at left = left
 
 -- a size field's two bytes
 small : (s : List ℕ) (at : ℕ) → Bytes s → sizeOf (drop at s) ≤ 65535
@@ -44,29 +44,29 @@ module _ (c : tie.In-loop Inv-loop μ-loop) where
   abbrev next : List ℕ
   next = drop (c .before .loop .at) (bytes start)
 
-  abbrev gives : List (List ℕ)
-  gives = emitOf (given start) (start .args .pass) next
+  abbrev gives : Measure
+  gives = measureFrom (given start) (start .args .origin) next
 
   sound-here : Sound access (start .args .rev) next
   sound-here =
       let l = c .before .loop in
       let a = start .args in
-      next-entry (given start) (a .pass) (a .rev) (bytes start) (a .n) (l .at) (l .left) (c .loop-test .taken) (l .inv .rest) .0
+      next-entry (a .rev) (bytes start) (l .at) (l .left) (c .loop-test .taken) (l .inv .rest) .0
 
   inside-here : c .before .loop .at + sizeOf next ≤ length (bytes start)
   inside-here =
       let l = c .before .loop in
       let a = start .args in
-      inside (given start) (a .pass) (a .rev) (bytes start) (a .n) (l .at) (l .left) (c .loop-test .taken) (l .inv .rest)
+      inside (a .rev) (bytes start) (l .at) (l .left) (c .loop-test .taken) (l .inv .rest)
 
   small-here : sizeOf next ≤ 65535
   small-here = small (bytes start) (c .before .loop .at) (λ i. c .before .before .before .before .shared-slice-known .given i .fits)
 
-  few-here : length (flatten gives) ≤ 65603
+  few-here : gives .bytes ≤ 131206
   few-here =
       let l = c .before .loop in
       let a = start .args in
-      few (given start) (a .pass) (a .rev) (bytes start) (a .n) (l .total) (l .at) (l .left) (l .inv) (c .loop-test .taken)
+      few (given start) (a .origin) (a .rev) (bytes start) (a .n) (l .total) (l .at) (l .left) (l .inv) (c .loop-test .taken)
       small-here (start .pre .1 .1) (start .pre .1 .2)
 
 -- after a turn's call: what it answers, of that entry
@@ -80,14 +80,14 @@ module _ (c : tie.After-measure-one Inv-loop μ-loop) where
   size-here : c .measure-one .result .size ≡ sizeOf (next turn)
   size-here = c .measure-one .ensures .0 ∙ ap (λ (t : List ℕ). sizeOf t) rest-here
 
-  gives-here : c .measure-one .result .gives ≡ measureOf (gives turn)
-  gives-here = c .measure-one .ensures .1 ∙ ap (λ (t : List ℕ). measureOf (emitOf (given (start turn)) (start turn .args .pass) t)) rest-here
+  gives-here : c .measure-one .result .gives ≡ gives turn
+  gives-here = c .measure-one .ensures .1 ∙ ap (λ (t : List ℕ). measureFrom (given (start turn)) (start turn .args .origin) t) rest-here
 
 loop-holds : tie.Need-loop-holds Inv-loop μ-loop
 loop-holds c =
     let s = c .before .before .before in
     let a = s .args in
-    measuring-none (given s) (a .pass) (a .rev) (bytes s) (a .n) (s .pre .0 .0)
+    measuring-none (given s) (a .origin) (a .rev) (bytes s) (a .n) (s .pre .0 .0)
 
 sub-measure-one : tie.Need-sub-measure-one Inv-loop μ-loop
 sub-measure-one c = omega (arith, inside-here c)
@@ -112,7 +112,7 @@ both-requires c κs =
     let s = start t in
     let i = t .before .loop .inv in
     let f = few-here t in
-    let q = emit-few (given s) (s .args .pass) (next t) in
+    let q = from-count (s .args .rev) (next t) (sound-here t) (given s) (s .args .origin) in
     let b = ap (λ (m : Measure). m .bytes) (gives-here k) in
     let n = ap (λ (m : Measure). m .count) (gives-here k) in
     omega (arith, b, n, i .bytes, i .count, s .pre .0 .1)
@@ -136,7 +136,7 @@ loop-again c =
     let s = start t in
     let a = s .args in
     let m = k .measure-one .result in
-    measuring-turn (given s) (a .pass) (a .rev) (bytes s) (a .n) (l .total) (l .at) (l .left) (l .inv) (t .loop-test .taken)
+    measuring-turn (given s) (a .origin) (a .rev) (bytes s) (a .n) (l .total) (l .at) (l .left) (l .inv) (t .loop-test .taken)
     (small-here t) (s .pre .1 .1) (s .pre .1 .2) (c .before .both .result) (m .gives) (m .size) (c .before .both .ensures) (gives-here k) (size-here k)
 
 returns : tie.Need-returns Inv-loop μ-loop
@@ -145,7 +145,7 @@ returns c =
     let s = c .before .before .before .before .before in
     let a = s .args in
     let z : l .left ≡ 0 = omega arith in (
-      measured-all (given s) (a .pass) (a .rev) (bytes s) (a .n) (l .total) (l .at) (l .left) (l .inv) (omega arith),
+      measured-all (given s) (a .origin) (a .rev) (bytes s) (a .n) (l .total) (l .at) (l .left) (l .inv) (omega arith),
       omega (arith, l .inv .bytes),
       omega (arith, l .inv .count),
     )

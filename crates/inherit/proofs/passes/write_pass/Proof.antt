@@ -64,13 +64,13 @@ module _ (c : tie.In-loop Inv-loop μ-loop) where
   sound-here =
       let l = c .before .loop in
       let a = begun .args in
-      next-entry (given begun) (a .pass) (a .rev) (bytes begun) (a .n) (l .at) (l .left) (c .loop-test .taken) (l .inv .rest) .0
+      next-entry (a .rev) (bytes begun) (l .at) (l .left) (c .loop-test .taken) (l .inv .rest) .0
 
   inside-here : c .before .loop .at + sizeOf next ≤ length (bytes begun)
   inside-here =
       let l = c .before .loop in
       let a = begun .args in
-      inside (given begun) (a .pass) (a .rev) (bytes begun) (a .n) (l .at) (l .left) (c .loop-test .taken) (l .inv .rest)
+      inside (a .rev) (bytes begun) (l .at) (l .left) (c .loop-test .taken) (l .inv .rest)
 
   fits-here : c .before .loop .to + length gives ≤ length (buffer begun)
   fits-here =

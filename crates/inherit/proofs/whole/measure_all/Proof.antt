@@ -1,45 +1,40 @@
--- Four passes, and their measures together. Assumes nothing.
+-- Three lists, and their measures together. Assumes nothing.
 use borrow.Author.Needs.{needs}
 use native.Mathlib.Omega.{arith}
 use mathlib.Core.Path.{ap₂, _∙_}
 use denote.Ref.{now}
+use lib.ListN.{drop}
+use Rattle.list.specs.List.{cut}
 use Rattle.inherit.specs.declared.copies.Pass.the-variants.{First, Second, Own, All}
 use Rattle.inherit.specs.Inner.Emit.{givenBy, emitted, both}
+use Rattle.inherit.proofs.Measures.{from-own, from-parent, from-default}
 use Rattle.inherit.proofs.Gather.{measure-four, Within, within-one, within-more}
 use Rattle.inherit.proofs.whole.measure_all.Statement.{statement}
 use Rattle.inherit.proofs.whole.measure_all.Tie as tie
 
--- once each pass is measured
-module _ (c : tie.After-measure-pass4) where
+-- once each list is measured
+module _ (c : tie.After-measure-pass3) where
   abbrev start : tie.Start
-  start = c .before .before .before .before .before .before .before .before .before .before .before .before
+  start = c .before .before .before .before .before .before .before .before .before .before .before
 
-  own-within : Within 1 (c .before .before .before .measure-pass .result)
+  own-within : Within 1 (c .before .before .measure-pass .result)
   own-within =
-      let e = c .before .before .before .measure-pass .ensures in
+      let e = c .before .before .measure-pass .ensures in
       within-one _ _ (start .pre .0 .own .few) (e .1) (e .2)
 
-  first-within : Within 1 (c .before .before .measure-pass2 .result)
-  first-within =
-      let e = c .before .before .measure-pass2 .ensures in
+  parent-within : Within 1 (c .before .measure-pass2 .result)
+  parent-within =
+      let e = c .before .measure-pass2 .ensures in
       within-one _ _ (start .pre .0 .parent .few) (e .1) (e .2)
 
-  second-within : Within 1 (c .before .measure-pass3 .result)
-  second-within =
-      let e = c .before .measure-pass3 .ensures in
-      within-one _ _ (start .pre .0 .parent .few) (e .1) (e .2)
-
-  all-within : Within 1 (c .measure-pass4 .result)
-  all-within =
-      let e = c .measure-pass4 .ensures in
+  default-within : Within 1 (c .measure-pass3 .result)
+  default-within =
+      let e = c .measure-pass3 .ensures in
       within-one _ _ (start .pre .0 .default .few) (e .1) (e .2)
 
--- the last two together, and the last three
+-- the last two together
 two-within : (c : tie.After-both) → Within 2 (c .both .result)
-two-within c = within-more 1 _ _ (c .both .result) (second-within (c .before)) (all-within (c .before)) (c .both .ensures)
-
-three-within : (c : tie.After-both2) → Within 3 (c .both2 .result)
-three-within c = within-more 2 _ _ (c .both2 .result) (first-within (c .before .before)) (two-within (c .before)) (c .both2 .ensures)
+two-within c = within-more 1 _ _ (c .both .result) (parent-within (c .before)) (default-within (c .before)) (c .both .ensures)
 
 measure-pass-requires : tie.Need-measure-pass-requires
 measure-pass-requires c κs = search needs
@@ -48,36 +43,26 @@ measure-pass-requires-2 : tie.Need-measure-pass-requires-2
 measure-pass-requires-2 c κs = search needs
 
 measure-pass-requires-3 : tie.Need-measure-pass-requires-3
-measure-pass-requires-3 c κs = search needs
-
-measure-pass-requires-4 : tie.Need-measure-pass-requires-4
-measure-pass-requires-4 c κs =
-    let s = c .before .before .before .before .before .before .before .before .before .before .before in
+measure-pass-requires-3 c κs =
+    let s = c .before .before .before .before .before .before .before .before .before .before in
     let r = s .pre .0 in
     ((r .default .passes, r .default .few), s .pre .1)
 
 both-requires : tie.Need-both-requires
 both-requires c κs =
-    let x = second-within c in
-    let y = all-within c in
+    let x = parent-within c in
+    let y = default-within c in
     omega (arith, x .bytes, y .bytes, x .count, y .count)
 
 both-requires-2 : tie.Need-both-requires-2
 both-requires-2 c κs =
-    let x = first-within (c .before) in
+    let x = own-within (c .before) in
     let y = two-within c in
-    omega (arith, x .bytes, y .bytes, x .count, y .count)
-
-both-requires-3 : tie.Need-both-requires-3
-both-requires-3 c κs =
-    let x = own-within (c .before .before) in
-    let y = three-within c in
     omega (arith, x .bytes, y .bytes, x .count, y .count)
 
 returns : tie.Need-returns
 returns c =
-    let k3 = c .before in
-    let k2 = k3 .before in
+    let k2 = c .before in
     let k = k2 .before in
     let a = start k .args in
     let g = givenBy (a .terms) (a .types) (now (a .owner)) (now (a .group)) in
@@ -85,11 +70,12 @@ returns c =
     let first = emitted g First (a .parts .parent .count) (now (a .parent)) in
     let second = emitted g Second (a .parts .parent .count) (now (a .parent)) in
     let all = emitted g All (a .parts .default .count) (now (a .default)) in
-    let two = k2 .both .ensures ∙ ap₂ both (k .before .measure-pass3 .ensures .0) (k .measure-pass4 .ensures .0) in
-    let three = k3 .both2 .ensures ∙ ap₂ both (k .before .before .measure-pass2 .ensures .0) two in
-    let four = c .both3 .ensures ∙ ap₂ both (k .before .before .before .measure-pass .ensures .0) three in
-    let w = within-more 3 _ _ (c .both3 .result) (own-within k) (three-within k3) (c .both3 .ensures) in
-    (four ∙ measure-four own first second all, omega (arith, w .bytes))
+    let o = k .before .before .measure-pass .ensures .0 ∙ from-own g (cut (a .parts .own .count) (drop 8 (now (a .creator)))) in
+    let p = k .before .measure-pass2 .ensures .0 ∙ from-parent g (cut (a .parts .parent .count) (drop 8 (now (a .parent)))) in
+    let d = k .measure-pass3 .ensures .0 ∙ from-default g (cut (a .parts .default .count) (drop 8 (now (a .default)))) in
+    let three = c .both2 .ensures ∙ ap₂ both o (k2 .both .ensures ∙ ap₂ both p d) in
+    let w = within-more 2 _ _ (c .both2 .result) (own-within k) (two-within k2) (c .both2 .ensures) in
+    (three ∙ measure-four own first second all, omega (arith, w .bytes))
 
 pub measure-all-spec : {M : Type 1} → statement M
 measure-all-spec =
@@ -98,8 +84,6 @@ measure-all-spec =
     measure-pass-requires
     measure-pass-requires-2
     measure-pass-requires-3
-    measure-pass-requires-4
     both-requires
     both-requires-2
-    both-requires-3
     returns)
