@@ -1,8 +1,8 @@
 // Little-endian numbers, bytes compared, and bytes put on the front of a buffer.
 ghost use mathlib.Core.Path.{_≡_};
-ghost use Prim.Native.Nat.{_+_, _≤_, min};
+ghost use mathlib.Core.Bool.{true, false};
+ghost use Prim.Native.Nat.{_+_, _≤_, _<_, min};
 ghost use lib.ListN.{length, drop, getD};
-ghost use lib.Dec.{leb};
 ghost use Rattle.list.specs.Bytes.{le, sameBytes, part, putOn};
 
 // The 16-bit number at `at`.
@@ -51,7 +51,7 @@ pub fn byte_in(s: &[u8], at: usize) -> u8
 
 // Whether the n bytes at `at` are all there.
 fn holds(s: &[u8], at: usize, n: usize) -> bool
-    ensures { λ r. ⌜ r ≡ leb (at + n) (length (now (s .entry))) ⌝ }
+    ensures { λ r. ⌜ (r ≡ true → at + n ≤ length (now (s .entry))) × (r ≡ false → length (now (s .entry)) < at + n) ⌝ }
 {
     if s.len() < n {
         return false;

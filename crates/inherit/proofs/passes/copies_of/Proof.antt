@@ -61,7 +61,7 @@ returns-2 c =
     let q = c .before .before .pick3 in
     let x = c .before .once2 .ensures in
     let y = c .once3 .ensures in
-    λ owner group. rw (e, x, y, p .ensures .0 owner group, q .ensures .0 owner group)
+    λ owner group. let a = p .ensures .0 owner group in let b = q .ensures .0 owner group in rw e cc
 
 returns-3 : tie.Need-returns-3
 unfolding timesOf

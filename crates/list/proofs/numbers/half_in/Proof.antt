@@ -1,11 +1,8 @@
 -- Both bytes are there, or the second one is not. Assumes nothing.
 use borrow.Author.Needs.{needs}
 use native.Mathlib.Omega.{arith}
-use mathlib.Core.Path.{sym, _∙_}
 use Prim.Native.Nat.{_+_}
 use denote.Ref.{now}
-use lib.ListN.{length}
-use borrow.Author.Tests.{leb-true, leb-false}
 use Rattle.list.proofs.Little.{le-at, le-past}
 use Rattle.list.proofs.numbers.half_in.Statement.{statement}
 use Rattle.list.proofs.numbers.half_in.Tie as tie
@@ -14,9 +11,7 @@ holds-requires : tie.Need-holds-requires
 holds-requires c κs = search needs
 
 half-at-requires : tie.Need-half-at-requires
-half-at-requires c κs =
-    let a = c .before .before .before .args in
-    leb-true (a .at + 2) (length (now (a .s))) (sym (c .before .holds .ensures) ∙ c .if1 .taken)
+half-at-requires c κs = omega (arith, c .before .holds .ensures .0 (c .if1 .taken))
 
 returns : tie.Need-returns
 returns c = search needs
@@ -31,7 +26,7 @@ returns-2 : tie.Need-returns-2
 returns-2 c =
     let a = c .before .before .before .before .args in
     let s = now (a .s) in
-    let h = leb-false (a .at + 2) (length s) (sym (c .before .before .holds .ensures) ∙ c .before .if1 .left) in
+    let h = c .before .before .holds .ensures .1 (c .before .if1 .left) in
     omega (arith, c .byte-in .ensures, le-at 1 s (a .at), le-past 1 s (a .at + 1) (omega arith))
 
 pub half-in-spec : {M : Type 1} → statement M

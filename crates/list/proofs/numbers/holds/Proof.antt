@@ -1,19 +1,17 @@
 -- A sum that may be too large is left unmade. Assumes nothing.
 use borrow.Author.Needs.{needs}
-use mathlib.Core.Path.{sym, _∙_}
-use Prim.Native.Nat.{_+_, _-_}
+use mathlib.Core.Path.{refl}
 use native.Mathlib.Omega.{arith}
 use denote.Ref.{now}
+use Prim.Native.Nat.{_-_}
 use lib.ListN.{length}
-use borrow.Author.Tests.{le-leb, lt-leb}
-use Rattle.list.proofs.Places.{split}
+use borrow.Author.Tests.{leb-true, leb-false}
+use Rattle.list.proofs.Tests.{off}
 use Rattle.list.proofs.numbers.holds.Statement.{statement}
 use Rattle.list.proofs.numbers.holds.Tie as tie
 
 returns : tie.Need-returns
-returns c =
-    let a = c .before .args in
-    sym (lt-leb (a .at + a .n) (length (now (a .s))) (omega arith))
+returns c = ((λ h. absurd (off h refl)), (λ h. omega arith))
 
 sub-result : tie.Need-sub-result
 sub-result c = search needs
@@ -21,10 +19,8 @@ sub-result c = search needs
 returns-2 : tie.Need-returns-2
 returns-2 c =
     let a = c .before .args in
-    let long = length (now (a .s)) in
-    split (a .at) (long - a .n)
-    (λ h. le-leb (a .at) (long - a .n) h ∙ sym (le-leb (a .at + a .n) long (omega arith)))
-    (λ h. lt-leb (a .at) (long - a .n) h ∙ sym (lt-leb (a .at + a .n) long (omega arith)))
+    let rest = length (now (a .s)) - a .n in
+    ((λ h. omega (arith, leb-true (a .at) rest h)), (λ h. omega (arith, leb-false (a .at) rest h)))
 
 pub holds-spec : {M : Type 1} → statement M
 holds-spec = tie.close (tie.spec returns sub-result returns-2)

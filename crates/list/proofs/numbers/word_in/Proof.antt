@@ -1,12 +1,11 @@
 -- All four bytes are there; or the last one is not, and of the high half one byte is left; or nothing is left to read. Assumes nothing.
 use borrow.Author.Needs.{needs}
 use native.Mathlib.Omega.{arith}
-use mathlib.Core.Path.{sym, ap, _∙_}
+use mathlib.Core.Path.{sym, ap}
 use Prim.Native.Nat.{_+_}
 use denote.Ref.{now}
-use lib.ListN.{length, drop}
+use lib.ListN.{drop}
 use lib.Seq.{drop-drop}
-use borrow.Author.Tests.{leb-true, leb-false}
 use Rattle.list.specs.Bytes.{le}
 use Rattle.list.proofs.Little.{le-add, le-at, le-past}
 use Rattle.list.proofs.numbers.word_in.Statement.{statement}
@@ -16,9 +15,7 @@ holds-requires : tie.Need-holds-requires
 holds-requires c κs = search needs
 
 word-at-requires : tie.Need-word-at-requires
-word-at-requires c κs =
-    let a = c .before .before .before .args in
-    leb-true (a .at + 4) (length (now (a .s))) (sym (c .before .holds .ensures) ∙ c .if1 .taken)
+word-at-requires c κs = omega (arith, c .before .holds .ensures .0 (c .if1 .taken))
 
 returns : tie.Need-returns
 returns c = search needs
@@ -49,7 +46,7 @@ returns-2 c =
     let h = c .before .before .before .before in
     let a = h .before .before .args in
     let s = now (a .s) in
-    let n = leb-false (a .at + 4) (length s) (sym (h .holds .ensures) ∙ c .before .before .before .if1 .left) in
+    let n = h .holds .ensures .1 (c .before .before .before .if1 .left) in
     omega
     (arith, le-add 2 2 (drop (a .at) s), ap (le 2) (drop-drop 2 (a .at) s), le-at 1 s (a .at + 2), le-past 1 s (a .at + 2 + 1) (omega arith))
 
