@@ -5,14 +5,15 @@ use mathlib.Core.List.{List}
 use mathlib.Core.Option.{none, some}
 use Prim.Native.Nat.{ℕ, suc, _+_, _^_, _≤_, _<_}
 use native.Mathlib.Omega.{arith}
-use lib.ListN.{length, take}
+use lib.ListN.{length, take, drop}
 use lib.Seq.{length-take-le}
 use lib.Dec.{leb}
 use borrow.Author.Tests.{ne-eqb, le-leb}
 use Rattle.list.specs.Order.{need}
 use Rattle.list.specs.Bytes.{has}
 use Rattle.list.specs.Entry.{access}
-use Rattle.list.specs.List.{revOf, entriesOf, checkOf}
+use Rattle.list.specs.List.{revOf, cut, entriesOf, checkOf}
+use Rattle.list.specs.Good.{Listed}
 use Rattle.list.specs.declared.lists.Reading.{Reading}
 use Rattle.list.specs.declared.lists.Reading.the-variants.{Done as Read, Refused as Unread}
 use Rattle.list.proofs.Told.{told}
@@ -23,10 +24,9 @@ use Rattle.access.specs.declared.Pointed.the-variants.{Done, Refused as 
 use Rattle.access.specs.Held.{heldOf, toEnd}
 use Rattle.access.specs.Open.{Question, opensBy, opens, onRead, readFirst, yesOrNo, mayOpenOf}
 use Rattle.access.specs.Walk.{walkOver, walkThrough, firstFrom, onWalk, pointedOf, stepAt}
-use Rattle.access.specs.Inner.Decide.{heldFault, toldBy, decidedFrom}
+use Rattle.access.specs.Inner.Decide.{heldFault, toldBy, decided}
 use Rattle.access.specs.Inner.Seek.{seekFrom}
 use Rattle.access.proofs.Walks.{walking-first, entries-kept}
-use Rattle.access.proofs.Turns.{decided-from}
 use Rattle.access.proofs.Seeks.{found-first}
 use Rattle.access.proofs.Decides.{decided-is}
 
@@ -89,12 +89,13 @@ module _ (s : List ℕ) (l n x : ℕ) (e : checkOf access s ≡ Read l n x) wher
       let b = end-within access s l n x e in
       omega (arith, length-take-le x s (omega (arith, b, t .whole)), t .end, d .ends, d .count, fewer access (revOf s) (entriesOf s) (d .wholes))
 
-  pub decided-all : (type : List ℕ) (sids : List (List ℕ)) (w m : ℕ) → w < 2 ^ 32 → length (take x s) ≤ m + 8
-      → decidedFrom (suc m) type sids w (take x s) 8 ≡ opensBy type sids w (entriesOf s)
-  decided-all type sids w m f h =
-      decided-from type sids n (suc m) w (take x s) 8 (walking-first s l n x e) (steps-enough m h)
-      ∙ decided-is type sids w _ f
-      ∙ ap (opensBy type sids w) (entries-kept s l n x e)
+  -- how its entries are read
+  pub reads-so : Listed access s n
+  reads-so = told access s l n x e .listed
+
+  pub decided-all : (type : List ℕ) (sids : List (List ℕ)) (w : ℕ) → w < 2 ^ 32 → decided type sids w (cut n (drop 8 s)) ≡ opensBy type sids w (entriesOf s)
+  unfolding entriesOf
+  decided-all type sids w f = decided-is type sids w _ f ∙ ap (λ (k : ℕ). opensBy type sids w (cut k (drop 8 s))) (reads-so .count)
 
   pub sought : (place m : ℕ) → length (take x s) ≤ m + 8 → stepAt (take x s) (seekFrom (suc m) (take x s) 8 place) ≡ firstFrom place (walkThrough s)
   sought place m h =

@@ -8,9 +8,11 @@ use lib.ListN.{take, drop}
 use lib.Bits.{bitAnd}
 use borrow.Author.Tests.{eq-eqb, ne-eqb}
 use Rattle.list.specs.Bytes.{has, among, sameBytes, guidAt}
-use Rattle.list.specs.Entry.{access, objectKind, wordOf, kindOf, flagsOf, maskOf, sidAt, sidLenOf, sidOf, fieldsOf}
+use Rattle.list.specs.Identity.{sidLen}
+use Rattle.list.specs.Entry.{access, objectKind, wordOf, kindOf, flagsOf, maskOf, sidAt, sidLenOf, sidOf}
+use Rattle.list.specs.Look.{lookOf}
 use Rattle.list.specs.Good.{Sound}
-use Rattle.list.specs.declared.entries.Entry.{Entry}
+use Rattle.list.specs.declared.looks.Look.{Look}
 use Rattle.list.proofs.Sids.{sid-length}
 use Rattle.list.proofs.Remade.{bounds}
 use Rattle.access.specs.declared.decide.Turn.the-variants.{On, Denied}
@@ -38,15 +40,15 @@ module _ (type t : List ℕ) where
     unfolding typeCounts
     typed-counts z = rw (h, ne-eqb (bitAnd (wordOf t) 1) 0 z)
 
-module _ (type : List ℕ) (sids : List (List ℕ)) (left : ℕ) (t : List ℕ) (e : Entry) (q : e ≡ fieldsOf t) where
+module _ (type : List ℕ) (sids : List (List ℕ)) (left : ℕ) (t : List ℕ) (e : Look) (q : e ≡ lookOf t) where
   kind-is : e .kind ≡ kindOf t
-  kind-is = ap (λ (x : Entry). x .kind) q
+  kind-is = ap (λ (x : Look). x .kind) q
 
   flags-is : e .flags ≡ flagsOf t
-  flags-is = ap (λ (x : Entry). x .flags) q
+  flags-is = ap (λ (x : Look). x .flags) q
 
   mask-is : e .mask ≡ maskOf t
-  mask-is = ap (λ (x : Entry). x .mask) q
+  mask-is = ap (λ (x : Look). x .mask) q
 
   pub no-bit-left : has left (e .mask) ≡ false → weighs type sids left t ≡ false
   unfolding weighs
@@ -60,27 +62,26 @@ module _ (type : List ℕ) (sids : List (List ℕ)) (left : ℕ) (t : List ℕ) 
   unfolding weighs entryCounts
   other-type h = rw (h, and-false (among (sidOf t) sids), and-false (not (has 8 (flagsOf t)))) (and-false (has left (maskOf t)))
 
-  -- the SID is left to look for
-  pub named : has left (e .mask) ≡ true → bitAnd (e .flags) 8 ≡ 0 → typeCounts type t ≡ true
-      → weighs type sids left t ≡ among (take (e .sid + e .«sid_len» - e .sid) (drop (e .sid) t)) sids
+  -- the SID, which is n bytes long, is left to look for
+  pub named : (n : ℕ) → n ≡ sidLen (drop (e .sid) t) → has left (e .mask) ≡ true → bitAnd (e .flags) 8 ≡ 0 → typeCounts type t ≡ true
+      → weighs type sids left t ≡ among (take (e .sid + n - e .sid) (drop (e .sid) t)) sids
   unfolding weighs entryCounts
-  named h z k =
-      let n : e .sid + e .«sid_len» - e .sid ≡ sidLenOf t = omega (arith, ap (λ (x : Entry). x .«sid_len») q) in
-      let s : take (e .sid + e .«sid_len» - e .sid) (drop (e .sid) t) ≡ sidOf t =
-      ap₂ (λ (m at : ℕ). take m (drop at t)) n (ap (λ (x : Entry). x .sid) q) in
+  named n l h z k =
+      let b : e .sid ≡ sidAt t = ap (λ (x : Look). x .sid) q in
+      let m : e .sid + n - e .sid ≡ sidLenOf t = omega (arith, l, ap (λ (i : ℕ). sidLen (drop i t)) b) in
+      let s : take (e .sid + n - e .sid) (drop (e .sid) t) ≡ sidOf t = ap₂ (λ (i at : ℕ). take i (drop at t)) m b in
       rw (ap (has left) (sym mask-is) ∙ h, eq-eqb (bitAnd (flagsOf t) 8) 0 (ap (λ (x : ℕ). bitAnd x 8) (sym flags-is) ∙ z), k, and-true (among (sidOf t) sids), s)
 
   -- what it leaves
-  module _ (next : ℕ) where
-    pub passed-over : weighs type sids left t ≡ false → turnWith (leftAfter type sids left t) next ≡ On left next
+  pub passed-over : weighs type sids left t ≡ false → turnWith (leftAfter type sids left t) ≡ On left
+  unfolding turnWith leftAfter
+  passed-over h = rw h
+
+  module _ (w : weighs type sids left t ≡ true) where
+    pub allowed : isAllow (e .kind) ≡ true → turnWith (leftAfter type sids left t) ≡ On (without left (e .mask))
     unfolding turnWith leftAfter
-    passed-over h = rw h
+    allowed h = rw (w, ap isAllow (sym kind-is) ∙ h, mask-is)
 
-    module _ (w : weighs type sids left t ≡ true) where
-      pub allowed : isAllow (e .kind) ≡ true → turnWith (leftAfter type sids left t) next ≡ On (without left (e .mask)) next
-      unfolding turnWith leftAfter
-      allowed h = rw (w, ap isAllow (sym kind-is) ∙ h, mask-is)
-
-      pub denied : isAllow (e .kind) ≡ false → turnWith (leftAfter type sids left t) next ≡ Denied
-      unfolding turnWith leftAfter
-      denied h = rw (w, ap isAllow (sym kind-is) ∙ h)
+    pub denied : isAllow (e .kind) ≡ false → turnWith (leftAfter type sids left t) ≡ Denied
+    unfolding turnWith leftAfter
+    denied h = rw (w, ap isAllow (sym kind-is) ∙ h)

@@ -1,21 +1,21 @@
 // Over a list's entries once, with the mask of the bits not yet decided.
 ghost use mathlib.Core.Path.{_≡_};
 ghost use mathlib.Core.Bool.{true};
-ghost use Prim.Native.Nat.{ℕ, suc, _+_, _≤_};
-ghost use lib.ListN.{length};
+ghost use lib.ListN.{drop};
 ghost use Rattle.list.specs.Bytes.{has as Bytes·has};
-ghost use Rattle.list.specs.Entry.{access, kindOf, wordOf, fieldsOf};
+ghost use Rattle.list.specs.Entry.{access, kindOf, wordOf};
+ghost use Rattle.list.specs.Look.{lookOf};
+ghost use Rattle.list.specs.List.{cut};
+ghost use Rattle.list.specs.Good.{Passes};
 ghost use Rattle.access.specs.Held.{heldOf, toEnd};
 ghost use Rattle.access.specs.Open.{typeCounts, isAllow};
-ghost use Rattle.access.specs.Inner.Decide.{SidIn, weighs as Decide·weighs, leftAfter, turnWith, turnAt, decidedFrom};
+ghost use Rattle.access.specs.Inner.Decide.{SidIn, weighs as Decide·weighs, leftAfter, turnWith, decided};
 use crate::held::names;
-use crate::steps::Found;
-use crate::steps::step_at;
-use list::Entry;
+use list::Look;
 
-// One step: the bits still to decide and where the next entry begins; or a bit is denied, or no entry is left to grant it.
+// What an entry leaves: the bits still to decide; or a bit is denied.
 pub enum Turn {
-    On { left: u32, next: usize },
+    On(u32),
     Denied,
 }
 
@@ -49,73 +49,68 @@ fn type_counts(t: &[u8], kind: u8, word: u32, guid: [u8; 16]) -> bool
 }
 
 // Whether the entry that `t` begins with counts and has a bit that isn't decided yet.
-fn weighs(t: &[u8], e: Entry, guid: [u8; 16], held: &[u8], left: u32) -> bool
-    requires { ⌜ (e ≡ fieldsOf (now t)) × SidIn (now t) × (toEnd (now held) ≡ true) ⌝ }
+fn weighs(t: &[u8], look: Look, guid: [u8; 16], held: &[u8], left: u32) -> bool
+    requires { ⌜ (look ≡ lookOf (now t)) × SidIn (now t) × (toEnd (now held) ≡ true) ⌝ }
     ensures { λ r. ⌜ r ≡ Decide·weighs guid (heldOf (now (held .entry))) left (now (t .entry)) ⌝ }
 {
-    if !has(e.mask, left) {
+    if !has(look.mask, left) {
         return false;
     }
-    if e.flags & 8 != 0 {
+    if look.flags & 8 != 0 {
         return false;
     }
-    if !type_counts(t, e.kind, e.word, guid) {
+    if !type_counts(t, look.kind, look.word, guid) {
         return false;
     }
-    let sid = e.sid;
-    let end = sid + e.sid_len;
+    let sid = look.sid;
+    let end = sid + list::sid_len_in(t, sid);
     names(&t[sid..end], held)
 }
 
-// What the entry that `t` begins with leaves to decide; the next one begins at `next`.
-fn turn_past(t: &[u8], e: Entry, next: usize, guid: [u8; 16], held: &[u8], left: u32) -> Turn
-    requires { ⌜ (e ≡ fieldsOf (now t)) × SidIn (now t) × (toEnd (now held) ≡ true) ⌝ }
-    ensures { λ r. ⌜ r ≡ turnWith (leftAfter guid (heldOf (now (held .entry))) left (now (t .entry))) next ⌝ }
+// What the entry that `t` begins with leaves to decide.
+fn turn_past(t: &[u8], look: Look, guid: [u8; 16], held: &[u8], left: u32) -> Turn
+    requires { ⌜ (look ≡ lookOf (now t)) × SidIn (now t) × (toEnd (now held) ≡ true) ⌝ }
+    ensures { λ r. ⌜ r ≡ turnWith (leftAfter guid (heldOf (now (held .entry))) left (now (t .entry))) ⌝ }
 {
-    if !weighs(t, e, guid, held, left) {
-        return Turn::On { left, next };
+    if !weighs(t, look, guid, held, left) {
+        return Turn::On(left);
     }
-    if is_allow(e.kind) {
-        return Turn::On {
-            left: left ^ (left & e.mask),
-            next,
-        };
+    if is_allow(look.kind) {
+        return Turn::On(left ^ (left & look.mask));
     }
     Turn::Denied
 }
 
-// One step of the walk.
-fn take_turn(entries: &[u8], at: usize, guid: [u8; 16], held: &[u8], left: u32) -> Turn
-    requires { ⌜ toEnd (now held) ≡ true ⌝ }
-    ensures { λ r. ⌜ r ≡ turnAt guid (heldOf (now (held .entry))) left (now (entries .entry)) at ⌝ }
-{
-    match step_at(entries, at) {
-        Found::End => Turn::Denied,
-        Found::At {
-            at: _,
-            entry: e,
-            next,
-        } => turn_past(&entries[at..], e, next, guid, held, left),
-    }
-}
-
-// Whether each wanted bit is granted: it stops as soon as that is decided.
-pub(crate) fn decide(entries: &[u8], guid: [u8; 16], held: &[u8], wanted: u32) -> bool
-    requires { ⌜ toEnd (now held) ≡ true ⌝ }
-    ensures { λ r. ⌜ ((n : ℕ) → length (now (entries .entry)) ≤ n + 8 → r ≡ decidedFrom (suc n) guid (heldOf (now (held .entry))) wanted (now (entries .entry)) 8) ⌝ }
+// Whether the n entries of a list grant each wanted bit: it stops as soon as that is decided.
+pub(crate) fn decide(
+    list: &[u8],
+    rev: u8,
+    n: usize,
+    guid: [u8; 16],
+    held: &[u8],
+    wanted: u32,
+) -> bool
+    requires { ⌜ Passes access rev n (drop 8 (now list)) × (toEnd (now held) ≡ true) ⌝ }
+    ensures { λ r. ⌜ r ≡ decided guid (heldOf (now (held .entry))) wanted (cut n (drop 8 (now (list .entry)))) ⌝ }
 {
     let mut left = wanted;
     let mut at: usize = 8;
+    let mut more = n;
     while left != 0 {
-        match take_turn(entries, at, guid, held, left) {
+        if more == 0 {
+            return false;
+        }
+        let look = list::look_at(&list[at..]);
+        match turn_past(&list[at..], look, guid, held, left) {
             Turn::Denied => {
                 return false;
             }
-            Turn::On { left: l, next } => {
+            Turn::On(l) => {
                 left = l;
-                at = next;
             }
         }
+        at += look.size;
+        more -= 1;
     }
     true
 }

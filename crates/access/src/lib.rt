@@ -65,15 +65,14 @@ pub fn may_open(given: bool, list: &[u8], guid: [u8; 16], held: &[u8], wanted: u
         Reading::Refused { number, at } => Access::Refused { number, at },
         Reading::Done {
             length: _,
-            count: _,
-            end,
+            count,
+            end: _,
         } => {
             let fault = held_fault(held);
             if fault != 0 {
                 return told(fault, false);
             }
-            let entries = list::part_of(list, 0, end as usize);
-            told(0, decide(entries, guid, held, wanted))
+            told(0, decide(list, list[0], count as usize, guid, held, wanted))
         }
     }
 }

@@ -1,24 +1,22 @@
--- By cases: a generic bit, no list, a list that is refused, a fault of the held bytes; then what is decided up to where the entries end. Assumes nothing.
+-- By cases: a generic bit, no list, a list that is refused, a fault of the held bytes; then what its entries decide. Assumes nothing.
 use borrow.Author.Needs.{needs}
 use native.Mathlib.Omega.{arith}
-use mathlib.Core.Path.{_≡_, sym, ap, ap₂, subst, _∙_}
+use mathlib.Core.Path.{_≡_, sym, ap, ap₂, _∙_}
 use mathlib.Core.Bool.{Bool, true, false, not}
-use mathlib.Core.List.{List}
-use Prim.Native.Nat.{ℕ, suc, _+_, _≤_}
+use Prim.Native.Nat.{ℕ}
 use denote.Ref.{now}
-use lib.ListN.{length, take}
 use lib.Bits.{bitAnd}
 use borrow.Author.Tests.{eq-eqb, ne-eqb, not-true, not-false}
 use Rattle.list.specs.Bytes.{has}
 use Rattle.list.specs.Entry.{access}
 use Rattle.list.specs.List.{lent, entriesOf, checkOf}
+use Rattle.list.specs.Good.{Listed}
 use Rattle.list.specs.declared.lists.Reading.the-variants.{Done}
 use Rattle.list.proofs.Answers.{checked}
-use Rattle.list.proofs.Places.{part-first}
 use Rattle.access.specs.Held.{heldOf}
 use Rattle.access.specs.Open.{Question, questionBy, opensBy, mayOpenOf}
-use Rattle.access.specs.Inner.Decide.{heldFault, toldBy, decidedFrom}
-use Rattle.access.proofs.Opens.{wants-generic, without-list, unread, read, fault-told, no-fault, decided-all}
+use Rattle.access.specs.Inner.Decide.{heldFault, toldBy}
+use Rattle.access.proofs.Opens.{wants-generic, without-list, unread, read, fault-told, no-fault, reads-so, decided-all}
 use Rattle.access.proofs.may_open.Statement.{statement}
 use Rattle.access.proofs.may_open.Tie as tie
 
@@ -34,16 +32,16 @@ specific c =
 
 -- ---- a list that reads as done
 
-abbrev at-start : tie.After-end → tie.Start
+abbrev at-start : tie.After-count → tie.Start
 at-start c = c .before .before .before .before .before .before .before
 
-read-here : (c : tie.After-end) → checkOf access (now (at-start c .args .list)) ≡ Done (c .end .given .0 .0) (c .end .given .0 .1 .0) (c .end .given .0 .1 .1 .0)
-read-here c = sym (checked _ (now (at-start c .args .list)) (c .before .before .check .ensures)) ∙ c .end .given .1
+read-here : (c : tie.After-count) → checkOf access (now (at-start c .args .list)) ≡ Done (c .count .given .0 .0) (c .count .given .0 .1 .0) (c .count .given .0 .1 .1 .0)
+read-here c = sym (checked _ (now (at-start c .args .list)) (c .before .before .check .ensures)) ∙ c .count .given .1
 
 abbrev opened : tie.Start → Bool
 opened s = opensBy (s .args .guid) (heldOf (now (s .args .held))) (s .args .wanted) (entriesOf (now (s .args .list)))
 
-answered : (c : tie.After-end) → mayOpenOf (asked (at-start c)) ≡ toldBy (heldFault (now (at-start c .args .held))) (opened (at-start c))
+answered : (c : tie.After-count) → mayOpenOf (asked (at-start c)) ≡ toldBy (heldFault (now (at-start c .args .held))) (opened (at-start c))
 answered c =
     let i = c .before .before .before in
     let s = at-start c in
@@ -72,8 +70,8 @@ check-requires c κs = search needs
 enum-known-number : tie.Need-enum-known-number
 enum-known-number c = search needs
 
-enum-known-end : tie.Need-enum-known-end
-enum-known-end c = search needs
+enum-known-count : tie.Need-enum-known-count
+enum-known-count c = search needs
 
 held-fault-requires-2 : tie.Need-held-fault-requires-2
 held-fault-requires-2 c κs = search needs
@@ -91,16 +89,21 @@ returns-3 c =
     ∙ ap (λ (n : ℕ). toldBy n b) (f .held-fault2 .ensures)
     ∙ sym (answered k)
 
-cast-part-of : tie.Need-cast-part-of
-cast-part-of c = search needs
+-- its entries, as they are read
+listed : (c : tie.After-count) → Listed access (now (at-start c .args .list)) (c .count .given .0 .1 .0)
+listed c = reads-so (now (at-start c .args .list)) _ _ _ (read-here c)
 
-part-of-requires : tie.Need-part-of-requires
-part-of-requires c κs = search needs
+shared-slice-read-decide : tie.Need-shared-slice-read-decide
+shared-slice-read-decide c = omega (arith, listed (c .before .before .before .before) .head .long)
+
+cast-decide : tie.Need-cast-decide
+cast-decide c = search needs
 
 decide-requires : tie.Need-decide-requires
 decide-requires c κs =
     let f = c .before .before in
-    no-fault (now (at-start (f .before .before) .args .held)) (sym (f .held-fault2 .ensures) ∙ c .before .if3 .left)
+    let k = f .before .before in
+    (listed k .passes, no-fault (now (at-start k .args .held)) (sym (f .held-fault2 .ensures) ∙ c .before .if3 .left))
 
 told-requires-3 : tie.Need-told-requires-3
 told-requires-3 c κs = search needs
@@ -116,20 +119,14 @@ returns-4 c =
 
 returns-5 : tie.Need-returns-5
 returns-5 c =
-    let p = c .before .before in
-    let f = p .before .before in
+    let p = c .before .before .before in
+    let f = p .before in
     let k = f .before .before in
     let s = at-start k in
     let a = s .args in
-    let b = now (a .list) in
-    let x = k .end .given .0 .1 .1 .0 in
-    let t : now (p .part-of .result) ≡ take x b = p .part-of .ensures ∙ part-first x b in
-    let m = length (take x b) in
-    let h = heldOf (now (a .held)) in
-    let r : c .before .decide .result ≡ decidedFrom (suc m) (a .guid) h (a .wanted) (take x b) 8 =
-    subst (λ (u : List ℕ). (n : ℕ) → length u ≤ n + 8 → c .before .decide .result ≡ decidedFrom (suc n) (a .guid) h (a .wanted) u 8) t (c .before .decide .ensures) m (omega arith) in
     c .told3 .ensures
-    ∙ ap₂ toldBy (sym (p .before .if3 .left) ∙ f .held-fault2 .ensures) (r ∙ decided-all b _ _ x (read-here k) (a .guid) h (a .wanted) m (s .fits .wanted .fits) (omega arith))
+    ∙ ap₂ toldBy (sym (p .if3 .left) ∙ f .held-fault2 .ensures)
+    (c .before .decide .ensures ∙ decided-all (now (a .list)) _ _ _ (read-here k) (a .guid) (heldOf (now (a .held))) (a .wanted) (s .fits .wanted .fits))
     ∙ sym (answered k)
 
 pub may-open-spec : {M : Type 1} → statement M
@@ -142,12 +139,12 @@ may-open-spec =
     returns-2
     check-requires
     enum-known-number
-    enum-known-end
+    enum-known-count
     held-fault-requires-2
     told-requires-2
     returns-3
-    cast-part-of
-    part-of-requires
+    shared-slice-read-decide
+    cast-decide
     decide-requires
     told-requires-3
     returns-4

@@ -1,9 +1,9 @@
 -- How the code decides: over the entries once, with the mask of the bits not yet decided.
-use Prim.Native.Nat.{ℕ, zero, suc, _-_, _≤_}
+use Prim.Native.Nat.{ℕ, _-_, _≤_}
 use mathlib.Core.List.{List, [], _∷_}
 use mathlib.Core.Bool.{Bool, true, false, cond, _&&_}
 use mathlib.Core.Option.{Option, none, some}
-use lib.ListN.{length, drop, getD}
+use lib.ListN.{length, getD}
 use lib.Dec.{eqb, leb}
 use lib.Bits.{bitXor, bitAnd}
 use Rattle.list.specs.Order.{need}
@@ -11,13 +11,10 @@ use Rattle.list.specs.Bytes.{has}
 use Rattle.list.specs.Entry.{kindOf, maskOf, sidLenOf, sidEnd}
 use Rattle.access.specs.declared.Access.{Access}
 use Rattle.access.specs.declared.Access.the-variants.{Refused}
-use Rattle.access.specs.declared.steps.Found.{Found}
-use Rattle.access.specs.declared.steps.Found.the-variants.{At, End}
 use Rattle.access.specs.declared.decide.Turn.{Turn}
 use Rattle.access.specs.declared.decide.Turn.the-variants.{On, Denied}
 use Rattle.access.specs.Held.{heldOf, toEnd}
 use Rattle.access.specs.Open.{entryCounts, isAllow, yesOrNo}
-use Rattle.access.specs.Walk.{stepAt}
 
 -- the number of a fault of the held bytes: 6, 7, or 0 where there is none
 unfoldable pub heldFault : List ℕ → ℕ
@@ -58,24 +55,7 @@ unfoldable pub decided : List ℕ → List (List ℕ) → ℕ → List (List ℕ
 decided type sids left [] = eqb left 0
 decided type sids left (e ∷ es) = cond (eqb left 0) true (ifLeft (leftAfter type sids left e) (λ l. decided type sids l es))
 
--- over bytes: one step of the walk
-unfoldable pub turnWith : Option ℕ → ℕ → Turn
-turnWith none next = Denied
-turnWith (some left) next = On left next
-
-unfoldable pub turnBy : List ℕ → List (List ℕ) → ℕ → List ℕ → Found → Turn
-turnBy type sids left s (At at e next) = turnWith (leftAfter type sids left (drop at s)) next
-turnBy type sids left s End = Denied
-
-abbrev pub turnAt : List ℕ → List (List ℕ) → ℕ → List ℕ → ℕ → Turn
-turnAt type sids left s at = turnBy type sids left s (stepAt s at)
-
-unfoldable pub ifOn : Turn → (ℕ → ℕ → Bool) → Bool
-ifOn (On left next) rest = rest left next
-ifOn Denied rest = false
-
--- at most n steps
-unfoldable pub decidedFrom : ℕ → List ℕ → List (List ℕ) → ℕ → List ℕ → ℕ → Bool
-decidedFrom zero type sids left s at = false
-decidedFrom (suc n) type sids left s at =
-    cond (eqb left 0) true (ifOn (turnAt type sids left s at) (λ l next. decidedFrom n type sids l s next))
+-- what the code answers for that
+unfoldable pub turnWith : Option ℕ → Turn
+turnWith none = Denied
+turnWith (some left) = On left

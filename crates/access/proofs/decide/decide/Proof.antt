@@ -1,75 +1,152 @@
--- Whatever is decided from `at` on is decided from the first entry on. Assumes nothing.
+-- What is decided from an entry on is what is decided from the first on (`Deciding`). Assumes nothing.
 use borrow.Author.Needs.{needs}
 use native.Mathlib.Omega.{arith}
-use mathlib.Core.Path.{_≡_, sym, _∙_}
-use mathlib.Core.Bool.{Bool}
-use Prim.Native.Nat.{_-_, _≤_, _<_}
+use mathlib.Core.Path.{_≡_, sym, ap, subst, _∙_}
+use mathlib.Core.Bool.{true}
+use mathlib.Core.List.{List}
+use Prim.Native.Nat.{ℕ, _+_, _-_, _≤_}
 use denote.Ref.{now}
-use lib.ListN.{length}
-use Rattle.access.specs.Held.{heldOf}
-use Rattle.access.specs.Inner.Decide.{turnAt}
-use Rattle.access.specs.declared.decide.Turn.the-variants.{On}
-use Rattle.access.proofs.Turns.{Decides, turn-forth, decides-yes, decides-no, decides-on}
+use lib.ListN.{length, take, drop, length-drop}
+use lib.Seq.{take-all}
+use Rattle.list.specs.Entry.{sizeOf}
+use Rattle.list.specs.Look.{lookOf}
+use Rattle.list.specs.declared.looks.Look.{Look}
+use Rattle.access.specs.Held.{heldOf, toEnd}
+use Rattle.access.specs.Inner.Decide.{SidIn, leftAfter, turnWith}
+use Rattle.access.proofs.Turns.{Deciding, deciding-none, inside, sid-here, decides-yes, decides-end, decides-no, decides-on}
 use Rattle.access.proofs.decide.decide.Statement.{statement}
 use Rattle.access.proofs.decide.decide.Tie as tie
 
 abbrev Inv-loop : tie.InvT-loop
-Inv-loop entries guid held wanted left₀ at₀ left at = (r : Bool) → Decides guid (heldOf held) entries left at r → Decides guid (heldOf held) entries wanted 8 r
+Inv-loop list rev n guid held wanted left₀ at₀ more₀ left at more = Deciding guid (heldOf held) rev list n wanted left at more
 
 abbrev μ-loop : tie.MeasureT-loop
-μ-loop entries guid held wanted left₀ at₀ left at = length entries - at
+μ-loop list rev n guid held wanted left₀ at₀ more₀ left at more = more
 
--- the step that was taken, as the definition has it
-gone-on : (c : tie.After-l Inv-loop μ-loop)
-    → let l = c .before .before .before .before in
-    let a = l .before .before .before .args in
-    turnAt (a .guid) (heldOf (now (a .held))) (l .loop .left) (now (a .entries)) (l .loop .at) ≡ On (c .l .given .0 .0) (c .l .given .0 .1 .0)
-gone-on c = sym (c .before .before .take-turn .ensures) ∙ c .l .given .1
+-- a part that reaches to the end is what is left
+left-part : (s : List ℕ) (at : ℕ) → take (length s - at) (drop at s) ≡ drop at s
+left-part s at = take-all (length s - at) (drop at s) (omega (arith, length-drop at s))
 
-forth : (c : tie.After-l Inv-loop μ-loop)
-    → let l = c .before .before .before .before in
-    (l .loop .at < c .l .given .0 .1 .0) × (c .l .given .0 .1 .0 ≤ length (now (l .before .before .before .args .entries)))
-forth c =
-    let l = c .before .before .before .before in
-    let a = l .before .before .before .args in
-    turn-forth (a .guid) (heldOf (now (a .held))) (now (a .entries)) (l .loop .left) (l .loop .at) _ _ (gone-on c)
+-- in a turn: the entry that comes next
+module _ (c : tie.Else1 Inv-loop μ-loop) where
+  abbrev start : tie.Start Inv-loop μ-loop
+  start = c .before .before .before .before .before
+
+  abbrev bytes : List ℕ
+  bytes = now (start .args .list)
+
+  abbrev sids : List (List ℕ)
+  sids = heldOf (now (start .args .held))
+
+  abbrev next : List ℕ
+  next = drop (c .before .before .loop .at) bytes
+
+  inside-here : c .before .before .loop .at + sizeOf next ≤ length bytes
+  inside-here =
+      let l = c .before .before .loop in
+      let a = start .args in
+      inside (a .guid) sids (a .rev) bytes (a .n) (a .wanted) (l .left) (l .at) (l .more) (l .inv) (c .before .loop-test .taken) (omega arith)
+
+-- after the look: what it finds of that entry
+module _ (c : tie.After-look-at Inv-loop μ-loop) where
+  abbrev turn : tie.Else1 Inv-loop μ-loop
+  turn = c .before .before
+
+  look-here : c .look-at .result ≡ lookOf (next turn)
+  look-here = c .look-at .ensures ∙ ap (λ (t : List ℕ). lookOf t) (left-part (bytes turn) (turn .before .before .loop .at))
+
+-- and what the entry leaves
+left-here : (c : tie.After-turn-past Inv-loop μ-loop)
+    → let t = turn (c .before .before) in
+    c .turn-past .result ≡ turnWith (leftAfter (start t .args .guid) (sids t) (t .before .before .loop .left) (next t))
+left-here c =
+    let t = turn (c .before .before) in
+    let l = t .before .before .loop in
+    c .turn-past .ensures ∙ ap (λ (u : List ℕ). turnWith (leftAfter (start t .args .guid) (sids t) (l .left) u)) (left-part (bytes t) (l .at))
 
 loop-holds : tie.Need-loop-holds Inv-loop μ-loop
-loop-holds c = λ r d. d
+loop-holds c = deciding-none _ _ _ _ _ _ (c .before .before .pre .0)
 
-take-turn-requires : tie.Need-take-turn-requires Inv-loop μ-loop
-take-turn-requires c κs = search needs
+returns : tie.Need-returns Inv-loop μ-loop
+returns c =
+    let l = c .before .before .loop in
+    let a = c .before .before .before .before .before .args in
+    decides-end (a .guid) (heldOf (now (a .held))) (a .rev) (now (a .list)) (a .n) (a .wanted) (l .left) (l .at) (l .more) (l .inv) (c .before .loop-test .taken) (c .if1 .taken)
+
+sub-look-at : tie.Need-sub-look-at Inv-loop μ-loop
+sub-look-at c = omega (arith, inside-here c)
+
+part-look-at-start : tie.Need-part-look-at-start Inv-loop μ-loop
+part-look-at-start c = omega (arith, inside-here c)
+
+part-look-at-end : tie.Need-part-look-at-end Inv-loop μ-loop
+part-look-at-end c = omega (arith, inside-here c)
+
+look-at-requires : tie.Need-look-at-requires Inv-loop μ-loop
+look-at-requires c κs = search needs
+
+sub-turn-past : tie.Need-sub-turn-past Inv-loop μ-loop
+sub-turn-past c = omega (arith, inside-here (turn c))
+
+part-turn-past-start : tie.Need-part-turn-past-start Inv-loop μ-loop
+part-turn-past-start c = omega (arith, inside-here (turn c))
+
+part-turn-past-end : tie.Need-part-turn-past-end Inv-loop μ-loop
+part-turn-past-end c = omega (arith, inside-here (turn c))
+
+turn-past-requires : tie.Need-turn-past-requires Inv-loop μ-loop
+turn-past-requires c κs =
+    let k = c .before in
+    let t = turn k in
+    let l = t .before .before .loop in
+    let s = start t in
+    let a = s .args in
+    let i = sid-here (a .guid) (sids t) (a .rev) (bytes t) (a .n) (a .wanted) (l .left) (l .at) (l .more) (l .inv) (t .before .loop-test .taken) (omega arith) in
+    subst (λ (u : List ℕ). (k .look-at .result ≡ lookOf u) × SidIn u × (toEnd (now (a .held)) ≡ true)) (sym (left-part (bytes t) (l .at)))
+    (look-here k, i, s .pre .1)
 
 enum-told : tie.Need-enum-told Inv-loop μ-loop
 enum-told c = search needs
 
-returns : tie.Need-returns Inv-loop μ-loop
-returns c =
-    let l = c .before .before .before .before in
-    let a = l .before .before .before .args in
-    l .loop .inv _
-    (decides-no (a .guid) (heldOf (now (a .held))) (now (a .entries)) (l .loop .left) (l .loop .at) (c .before .before .before .loop-test .taken)
-    (sym (c .before .before .take-turn .ensures) ∙ c .enum-told .given .1))
+returns-2 : tie.Need-returns-2 Inv-loop μ-loop
+returns-2 c =
+    let k = c .before .before in
+    let t = turn (k .before .before) in
+    let l = t .before .before .loop in
+    let a = start t .args in
+    decides-no (a .guid) (sids t) (a .rev) (bytes t) (a .n) (a .wanted) (l .left) (l .at) (l .more) (l .inv) (t .before .loop-test .taken) (omega arith)
+    (sym (left-here k) ∙ c .enum-told .given .1)
 
 enum-known-l : tie.Need-enum-known-l Inv-loop μ-loop
 enum-known-l c = search needs
 
+add-at : tie.Need-add-at Inv-loop μ-loop
+add-at c =
+    let j = c .before .before .before .before .before .before in
+    omega (arith, inside-here (turn j), ap (λ (x : Look). x .size) (look-here j))
+
+sub-more : tie.Need-sub-more Inv-loop μ-loop
+sub-more c = omega arith
+
 loop-less : tie.Need-loop-less Inv-loop μ-loop
-loop-less c = let f = forth (c .before) in omega (arith, f)
+loop-less c = omega arith
 
 loop-again : tie.Need-loop-again Inv-loop μ-loop
 loop-again c =
-    let k = c .before in
-    let l = k .before .before .before .before in
-    let a = l .before .before .before .args in
-    λ r d. l .loop .inv r
-    (decides-on (a .guid) (heldOf (now (a .held))) (now (a .entries)) (l .loop .left) (l .loop .at) (k .before .before .before .loop-test .taken) _ _ (gone-on k) r d)
+    let m = c .before .before in
+    let k = m .before .before in
+    let j = k .before .before in
+    let t = turn j in
+    let l = t .before .before .loop in
+    let a = start t .args in
+    decides-on (a .guid) (sids t) (a .rev) (bytes t) (a .n) (a .wanted) (l .left) (l .at) (l .more) (l .inv) (t .before .loop-test .taken) (omega arith)
+    (m .l .given .0 .0) (j .look-at .result .size) (sym (left-here k) ∙ m .l .given .1) (ap (λ (x : Look). x .size) (look-here j))
 
-returns-2 : tie.Need-returns-2 Inv-loop μ-loop
-returns-2 c =
-    let l = c .before in
-    let a = l .before .before .before .args in
-    l .loop .inv _ (decides-yes (a .guid) (heldOf (now (a .held))) (now (a .entries)) (l .loop .left) (l .loop .at) (c .loop-test .left))
+returns-3 : tie.Need-returns-3 Inv-loop μ-loop
+returns-3 c =
+    let l = c .before .loop in
+    let a = c .before .before .before .before .args in
+    decides-yes (a .guid) (heldOf (now (a .held))) (a .rev) (now (a .list)) (a .n) (a .wanted) (l .left) (l .at) (l .more) (l .inv) (c .loop-test .left)
 
 pub decide-spec : {M : Type 1} → statement M
 decide-spec =
@@ -78,10 +155,20 @@ decide-spec =
     Inv-loop
     μ-loop
     loop-holds
-    take-turn-requires
-    enum-told
     returns
+    sub-look-at
+    part-look-at-start
+    part-look-at-end
+    look-at-requires
+    sub-turn-past
+    part-turn-past-start
+    part-turn-past-end
+    turn-past-requires
+    enum-told
+    returns-2
     enum-known-l
+    add-at
+    sub-more
     loop-less
     loop-again
-    returns-2)
+    returns-3)

@@ -1,22 +1,30 @@
 -- By cases: no bit is left, IO, another type; then the SID decides. Assumes nothing.
 use borrow.Author.Needs.{needs}
 use native.Mathlib.Omega.{arith}
-use mathlib.Core.Path.{sym, ap, _∙_}
+use mathlib.Core.Path.{_≡_, sym, ap, _∙_}
 use Prim.Native.Nat.{_+_, _-_, _≤_}
 use denote.Ref.{now}
 use lib.ListN.{length, drop, length-drop}
 use lib.Seq.{length-take-le}
 use borrow.Author.Tests.{not-true, not-false}
-use Rattle.list.specs.declared.entries.Entry.{Entry}
+use Rattle.list.specs.Identity.{sidLen}
+use Rattle.list.specs.Entry.{sidLenOf}
+use Rattle.list.specs.declared.looks.Look.{Look}
 use Rattle.access.specs.Held.{heldOf}
 use Rattle.access.proofs.Weighs.{no-bit-left, only-inherited, other-type, named}
 use Rattle.access.proofs.decide.weighs.Statement.{statement}
 use Rattle.access.proofs.decide.weighs.Tie as tie
 
--- the SID ends inside the bytes
-ends : (s : tie.Start) → s .args .e .sid + s .args .e .«sid_len» ≤ length (now (s .args .t))
-ends s =
-    omega (arith, ap (λ (x : Entry). x .sid + x .«sid_len») (s .pre .0), s .pre .1 .inside)
+-- once the SID's length is known: it ends inside the bytes
+module _ (c : tie.After-sid-len-in) where
+  abbrev start : tie.Start
+  start = c .before .before .before .before .before .before .before .before .before
+
+  long : c .sid-len-in .result ≡ sidLenOf (now (start .args .t))
+  long = c .sid-len-in .ensures ∙ ap (λ (x : Look). sidLen (drop (x .sid) (now (start .args .t)))) (start .pre .0)
+
+  ends : start .args .look .sid + c .sid-len-in .result ≤ length (now (start .args .t))
+  ends = omega (arith, long, ap (λ (x : Look). x .sid) (start .pre .0), start .pre .1 .inside)
 
 has-requires : tie.Need-has-requires
 has-requires c κs = search needs
@@ -24,25 +32,28 @@ has-requires c κs = search needs
 returns : tie.Need-returns
 returns c =
     let s = c .before .before .before .before in
-    sym (no-bit-left (s .args .guid) (heldOf (now (s .args .held))) (s .args .left) (now (s .args .t)) (s .args .e) (s .pre .0) (sym (c .before .has .ensures) ∙ not-true _ (c .if1 .taken)))
+    sym (no-bit-left (s .args .guid) (heldOf (now (s .args .held))) (s .args .left) (now (s .args .t)) (s .args .look) (s .pre .0) (sym (c .before .has .ensures) ∙ not-true _ (c .if1 .taken)))
 
 returns-2 : tie.Need-returns-2
 returns-2 c =
     let s = c .before .before .before .before .before .before in
-    sym (only-inherited (s .args .guid) (heldOf (now (s .args .held))) (s .args .left) (now (s .args .t)) (s .args .e) (s .pre .0) (c .if2 .taken))
+    sym (only-inherited (s .args .guid) (heldOf (now (s .args .held))) (s .args .left) (now (s .args .t)) (s .args .look) (s .pre .0) (c .if2 .taken))
 
 type-counts-requires : tie.Need-type-counts-requires
 type-counts-requires c κs =
     let s = c .before .before .before .before .before .before in
-    (ap (λ (x : Entry). x .kind) (s .pre .0), ap (λ (x : Entry). x .word) (s .pre .0))
+    (ap (λ (x : Look). x .kind) (s .pre .0), ap (λ (x : Look). x .word) (s .pre .0))
 
 returns-3 : tie.Need-returns-3
 returns-3 c =
     let s = c .before .before .before .before .before .before .before .before in
-    sym (other-type (s .args .guid) (heldOf (now (s .args .held))) (s .args .left) (now (s .args .t)) (s .args .e) (s .pre .0) (sym (c .before .type-counts .ensures) ∙ not-true _ (c .if3 .taken)))
+    sym (other-type (s .args .guid) (heldOf (now (s .args .held))) (s .args .left) (now (s .args .t)) (s .args .look) (s .pre .0) (sym (c .before .type-counts .ensures) ∙ not-true _ (c .if3 .taken)))
+
+sid-len-in-requires : tie.Need-sid-len-in-requires
+sid-len-in-requires c κs = search needs
 
 add-end : tie.Need-add-end
-add-end c = let s = c .before .before .before .before .before .before .before .before .before in omega (arith, ends s)
+add-end c = omega (arith, ends c)
 
 sub-names : tie.Need-sub-names
 sub-names c = search needs
@@ -51,23 +62,25 @@ part-names-start : tie.Need-part-names-start
 part-names-start c = search needs
 
 part-names-end : tie.Need-part-names-end
-part-names-end c = let s = c .before .before .before .before .before .before .before .before .before in omega (arith, ends s)
+part-names-end c = omega (arith, ends c)
 
 names-requires : tie.Need-names-requires
 names-requires c κs =
-    let s = c .before .before .before .before .before .before .before .before .before .before in
-    let a = s .args in
-    let n = length-take-le (a .e .sid + a .e .«sid_len» - a .e .sid) (drop (a .e .sid) (now (a .t))) (omega (arith, ends s, length-drop (a .e .sid) (now (a .t)))) in
-    (omega (arith, n, ap (λ (x : Entry). x .«sid_len») (s .pre .0), s .pre .1 .eight), s .pre .2)
+    let k = c .before in
+    let s = start k in
+    let at = s .args .look .sid in
+    let n = length-take-le (at + k .sid-len-in .result - at) (drop at (now (s .args .t))) (omega (arith, ends k, length-drop at (now (s .args .t)))) in
+    (omega (arith, n, long k, s .pre .1 .eight), s .pre .2)
 
 returns-4 : tie.Need-returns-4
 returns-4 c =
-    let k = c .before .before .before in
+    let m = c .before .before in
+    let k = m .before in
     let j = k .before .before in
     let i = j .before .before in
-    let s = i .before .before .before .before in
+    let s = start m in
     c .names .ensures
-    ∙ sym (named (s .args .guid) (heldOf (now (s .args .held))) (s .args .left) (now (s .args .t)) (s .args .e) (s .pre .0)
+    ∙ sym (named (s .args .guid) (heldOf (now (s .args .held))) (s .args .left) (now (s .args .t)) (s .args .look) (s .pre .0) (m .sid-len-in .result) (m .sid-len-in .ensures)
     (sym (i .before .has .ensures) ∙ not-false _ (i .if1 .left)) (j .if2 .left) (sym (k .before .type-counts .ensures) ∙ not-false _ (k .if3 .left)))
 
 pub weighs-spec : {M : Type 1} → statement M
@@ -79,6 +92,7 @@ weighs-spec =
     returns-2
     type-counts-requires
     returns-3
+    sid-len-in-requires
     add-end
     sub-names
     part-names-start
