@@ -5,7 +5,7 @@ use mathlib.Core.List.{List, _++_, append-assoc, append-nil, flatten}
 use Prim.Native.Nat.{ℕ, _+_, _-_, _*_, _≤_, _<_}
 use native.Mathlib.Omega.{arith}
 use lib.ListN.{length, take, drop, length-append, length-drop}
-use lib.Seq.{drop-drop, take-all}
+use lib.Seq.{drop-drop}
 use Rattle.list.specs.Bytes.{front}
 use Rattle.list.specs.Entry.{access, sizeOf}
 use Rattle.list.specs.List.{cut}
@@ -21,10 +21,6 @@ use Rattle.inherit.specs.Inner.Emit.{emitOf, emitAll, emitted, both, mea
 use Rattle.inherit.proofs.Emits.{emit-turn, emit-none, flatten-append}
 use Rattle.inherit.proofs.Measures.{both-none, none-both, both-assoc, measure-none, measure-turn}
 use Rattle.inherit.proofs.One.{from-bytes, from-count}
-
--- `&s[at..]` is what is left
-pub rest-is : (s : List ℕ) (at : ℕ) → take (length s - at) (drop at s) ≡ drop at s
-rest-is s at = take-all (length s - at) (drop at s) (omega (arith, length-drop at s))
 
 module _ (rev : ℕ) (s : List ℕ) where
   -- the entry that comes next, and those after it

@@ -87,7 +87,7 @@ fn put_copy<'a>(
     )
 }
 
-pub(crate) fn either(a: bool, b: bool) -> bool
+fn either(a: bool, b: bool) -> bool
     ensures { λ r. ⌜ r ≡ (a || b) ⌝ }
 {
     if a {

@@ -176,6 +176,10 @@ drop-least n l = split n (length l) (λ h. rw (min-eq-left h)) (λ h. let k = le
 pub take-least : (n : ℕ) (l : List ℕ) → take (min n (length l)) l ≡ take n l
 take-least n l = split n (length l) (λ h. rw (min-eq-left h)) (λ h. let k = le-of-lt h in rw (min-eq-right k, take-length, take-all n l k))
 
+-- `&s[at..]` is what is left
+pub rest-is : (s : List ℕ) (at : ℕ) → take (length s - at) (drop at s) ≡ drop at s
+rest-is s at = take-all (length s - at) (drop at s) (omega (arith, length-drop at s))
+
 -- how the code takes a part: as much of it as there is
 pub part-least : (s : List ℕ) (at n from long : ℕ) → from ≡ min at (length s) → long ≡ min n (length s - from)
     → take (from + long - from) (drop from s) ≡ part at n s

@@ -6,11 +6,11 @@ use mathlib.Core.Bool.{true}
 use mathlib.Core.List.{List}
 use Prim.Native.Nat.{ℕ, _+_, _-_, _≤_}
 use denote.Ref.{now}
-use lib.ListN.{length, take, drop, length-drop}
-use lib.Seq.{take-all}
+use lib.ListN.{length, drop}
 use Rattle.list.specs.Entry.{sizeOf}
 use Rattle.list.specs.Look.{lookOf}
 use Rattle.list.specs.declared.looks.Look.{Look}
+use Rattle.list.proofs.Places.{rest-is}
 use Rattle.access.specs.Held.{heldOf, toEnd}
 use Rattle.access.specs.Inner.Decide.{SidIn, leftAfter, turnWith}
 use Rattle.access.proofs.Turns.{Deciding, deciding-none, inside, sid-here, decides-yes, decides-end, decides-no, decides-on}
@@ -22,10 +22,6 @@ Inv-loop list rev n guid held wanted left₀ at₀ more₀ left at more = Decidi
 
 abbrev μ-loop : tie.MeasureT-loop
 μ-loop list rev n guid held wanted left₀ at₀ more₀ left at more = more
-
--- a part that reaches to the end is what is left
-left-part : (s : List ℕ) (at : ℕ) → take (length s - at) (drop at s) ≡ drop at s
-left-part s at = take-all (length s - at) (drop at s) (omega (arith, length-drop at s))
 
 -- in a turn: the entry that comes next
 module _ (c : tie.Else1 Inv-loop μ-loop) where
@@ -53,7 +49,7 @@ module _ (c : tie.After-look-at Inv-loop μ-loop) where
   turn = c .before .before
 
   look-here : c .look-at .result ≡ lookOf (next turn)
-  look-here = c .look-at .ensures ∙ ap (λ (t : List ℕ). lookOf t) (left-part (bytes turn) (turn .before .before .loop .at))
+  look-here = c .look-at .ensures ∙ ap (λ (t : List ℕ). lookOf t) (rest-is (bytes turn) (turn .before .before .loop .at))
 
 -- and what the entry leaves
 left-here : (c : tie.After-turn-past Inv-loop μ-loop)
@@ -62,7 +58,7 @@ left-here : (c : tie.After-turn-past Inv-loop μ-loop)
 left-here c =
     let t = turn (c .before .before) in
     let l = t .before .before .loop in
-    c .turn-past .ensures ∙ ap (λ (u : List ℕ). turnWith (leftAfter (start t .args .guid) (sids t) (l .left) u)) (left-part (bytes t) (l .at))
+    c .turn-past .ensures ∙ ap (λ (u : List ℕ). turnWith (leftAfter (start t .args .guid) (sids t) (l .left) u)) (rest-is (bytes t) (l .at))
 
 loop-holds : tie.Need-loop-holds Inv-loop μ-loop
 loop-holds c = deciding-none _ _ _ _ _ _ (c .before .before .pre .0)
@@ -102,7 +98,7 @@ turn-past-requires c κs =
     let s = start t in
     let a = s .args in
     let i = sid-here (a .guid) (sids t) (a .rev) (bytes t) (a .n) (a .wanted) (l .left) (l .at) (l .more) (l .inv) (t .before .loop-test .taken) (omega arith) in
-    subst (λ (u : List ℕ). (k .look-at .result ≡ lookOf u) × SidIn u × (toEnd (now (a .held)) ≡ true)) (sym (left-part (bytes t) (l .at)))
+    subst (λ (u : List ℕ). (k .look-at .result ≡ lookOf u) × SidIn u × (toEnd (now (a .held)) ≡ true)) (sym (rest-is (bytes t) (l .at)))
     (look-here k, i, s .pre .1)
 
 enum-told : tie.Need-enum-told Inv-loop μ-loop

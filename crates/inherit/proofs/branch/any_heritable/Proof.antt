@@ -10,9 +10,9 @@ use Rattle.list.specs.Bytes.{has}
 use Rattle.list.specs.Entry.{access, sizeOf}
 use Rattle.list.specs.Look.{lookOf}
 use Rattle.list.specs.declared.looks.Look.{Look}
+use Rattle.list.proofs.Places.{rest-is}
 use Rattle.list.proofs.Rows.{passes-turn}
 use Rattle.inherit.specs.Copies.{heritable}
-use Rattle.inherit.proofs.Loops.{rest-is}
 use Rattle.inherit.proofs.Search.{Searching, searching-none, searching-more, found, none-found}
 use Rattle.inherit.proofs.branch.any_heritable.Statement.{statement}
 use Rattle.inherit.proofs.branch.any_heritable.Tie as tie

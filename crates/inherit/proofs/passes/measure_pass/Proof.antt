@@ -10,9 +10,10 @@ use Rattle.list.specs.Entry.{access, sizeOf}
 use Rattle.list.specs.Good.{Sound}
 use Rattle.list.proofs.Little.{le-lt, bytes-drop}
 use Rattle.inherit.specs.declared.passes.Measure.{Measure}
+use Rattle.list.proofs.Places.{rest-is}
 use Rattle.inherit.specs.Asked.{Given}
 use Rattle.inherit.specs.Inner.Emit.{givenBy, measureFrom}
-use Rattle.inherit.proofs.Loops.{rest-is, next-entry, inside, Measuring, measuring-none, few, measuring-turn, measured-all}
+use Rattle.inherit.proofs.Loops.{next-entry, inside, Measuring, measuring-none, few, measuring-turn, measured-all}
 use Rattle.inherit.proofs.One.{from-count}
 use Rattle.inherit.proofs.passes.measure_pass.Statement.{statement}
 use Rattle.inherit.proofs.passes.measure_pass.Tie as tie

@@ -8,9 +8,10 @@ use lib.ListN.{length, take, drop, length-drop}
 use Rattle.list.specs.Bytes.{front}
 use Rattle.list.specs.Entry.{access, sizeOf}
 use Rattle.list.specs.Good.{Sound}
+use Rattle.list.proofs.Places.{rest-is}
 use Rattle.inherit.specs.Asked.{Given}
 use Rattle.inherit.specs.Inner.Emit.{givenBy, emitOf}
-use Rattle.inherit.proofs.Loops.{rest-is, next-entry, inside, Writing, writing-none, to-fits, long, one-fits, writing-turn, written-all}
+use Rattle.inherit.proofs.Loops.{next-entry, inside, Writing, writing-none, to-fits, long, one-fits, writing-turn, written-all}
 use Rattle.inherit.proofs.passes.write_pass.Statement.{statement}
 use Rattle.inherit.proofs.passes.write_pass.Tie as tie
 
