@@ -9,9 +9,10 @@
  *   0  the number: 0 done, or why the call refused (PT_..., below)
  *   1  which list a refusal concerns: 1 parent, 2 creator, own or set list, 3 default; else 0
  *   2  the offset of a refusal's entry, else 0
- *   3  done: the length; of pt_may_open 1 for yes and 0 for no; of pt_step where the entry begins, 0 where none is left
- *   4  done: 1 present, 0 absent; of pt_may_open 0; of pt_step 1, or 0 where no entry is left
- *   5  done: the entry count; of pt_may_open and pt_step 0
+ *   3  done: the length; of pt_may_open and pt_may_open_with 1 for yes and 0 for no; of pt_evaluate 0 false, 1 true, 2 unknown;
+ *      of pt_step where the entry begins, 0 where none is left
+ *   4  done: 1 present, 0 absent; of pt_may_open, pt_may_open_with and pt_evaluate 0; of pt_step 1, or 0 where no entry is left
+ *   5  done: the entry count; of pt_may_open, pt_may_open_with, pt_evaluate and pt_step 0
  *   6  done: the control bits
  *   7  done, of pt_read: where the entries end, 8 where there are none; else 0
  */
@@ -29,12 +30,13 @@ enum {
     PT_DONE = 0,
     PT_HEADER = 1,   /* list under 8 bytes, revision not 2 or 4, zero bytes not zero, size not the length */
     PT_SIZE = 2,     /* an entry doesn't fit or its size is wrong */
-    PT_TYPE = 3,     /* entry type not 00, 01, 05, 06, or 05 and 06 under revision 2 */
+    PT_TYPE = 3,     /* entry type not 00, 01, 05, 06, 09, 0A, or 05 and 06 under revision 2 */
     PT_BITS = 4,     /* an unknown bit in the flags or in the object word */
     PT_SID = 5,      /* SID first byte not 1, or n above 15, in an entry */
-    PT_IDENTITY = 6, /* owner or group isn't exactly one SID, or is a placeholder; of pt_may_open: the held bytes aren't SIDs to
-                        their end (placeholders are allowed there) */
-    PT_TYPES = 7,    /* object types not a multiple of 16 bytes, or over 64 bytes; of pt_may_open: more than 32 SIDs held */
+    PT_IDENTITY = 6, /* owner or group isn't exactly one SID, or is a placeholder; of pt_may_open and pt_may_open_with: the held
+                        bytes aren't SIDs to their end (placeholders are allowed there) */
+    PT_TYPES = 7,    /* object types not a multiple of 16 bytes, or over 64 bytes; of pt_may_open and pt_may_open_with: more than 32
+                        SIDs held */
     PT_ROOM = 8,     /* no room: a result over the lent length or over 65,532 bytes; an index row too short; in a tree a list
                         given, or any list that the change or undo would compute, over 1,024 bytes */
     PT_OBJECT = 9,   /* no such object; parent missing, not a container, or not as the first or later add asks */
@@ -42,7 +44,9 @@ enum {
     PT_NO_STEP = 11, /* undo with no kept step */
     PT_RULE = 12,    /* limits or rule out of range, or lent room under the formula */
     PT_TREE = 13,    /* the room handed in isn't a well-formed tree */
-    PT_GENERIC = 14  /* a generic bit (F0000000) is wanted */
+    PT_GENERIC = 14, /* a generic bit (F0000000) is wanted */
+    PT_EXPRESSION = 15, /* the expression of a conditional entry, or one handed to pt_evaluate, isn't acceptable */
+    PT_TABLE = 23    /* a table that isn't made as pt_evaluate says */
 };
 
 /* Settings of a computation: bits of a number. Other bits aren't looked at. */
@@ -64,15 +68,28 @@ uint32_t pt_identity(const uint8_t *bytes, size_t bytes_len);
  * equal the length handed in, so up to 65,535 bytes in all. They are looked at by nothing. An own list is kept and given back with
  * them, and they count for the 1,024 bytes of a list given to a tree; a computed list never has any. */
 
+/* Entries of the types 09 (allow) and 0A (deny) are conditional, under either revision: behind the SID stands an expression, in
+ * MS-DTYP's stored form. It begins with 61 72 74 78; then come its tokens, at most 64, an operator behind its operands:
+ *   04          a number: eight bytes, two's complement, lowest first, a sign byte and a base byte (each 1 to 3, whatever it is)
+ *   F8          a local name: its length in bytes, 32 bits, even and not 0, then the name
+ *   80 to 85    ==, !=, <, <=, >, >= of two operands, each a number or a name
+ *   87          Exists, of a name
+ *   A0, A1, A2  and, or, not, over conditions: what the comparisons, Exists and these themselves give
+ * Exactly one condition is left, and at no time more than 16 operands and conditions wait at once. In an entry zeros follow up to
+ * a multiple of four, none where the length is one already. An expression that isn't so is 15, wherever 1 to 5 are tested: behind
+ * the 5 of its entry (so where the SID ends within the entry's size), and before the 2 of other zeros.
+ * A list is computed from 09 as from 00 and from 0A as from 01; the expression goes along unchanged. */
+
 /* Reads an access list. Done: the row's elements up to the entry count hold the entries' offsets, and the rest are as they were;
- * place 7 is where the entries end and spare bytes begin. Refused, by 1 to 5 and then 8: no element changes.
+ * place 7 is where the entries end and spare bytes begin. Refused, by 1 to 5 and 15 and then 8: no element changes.
  * row_len counts elements, not bytes. 4,095 elements are enough for every list, with spare bytes or without: an entry has at least
  * 16 bytes, and no more than 65,527 can follow a header. */
 void pt_read(const uint8_t *list, size_t list_len, uint16_t *row, size_t row_len, uint32_t answer[8]);
 
 /* The viewer's walk over a list, entry by entry, where they lie. place: 0 to begin with, then entry[7] of the last call, until
  * answer[4] is 0. Any other number may be passed: the entry meant is the first one that begins at or after place. Spare bytes are
- * no entry. The whole list is tested at every step, as pt_read tests it: 1 to 5 (list 0, with the offset). Nothing else refuses.
+ * no entry. The whole list is tested at every step, as pt_read tests it: 1 to 5 and 15 (list 0, with the offset). Nothing else
+ * refuses.
  * Done: place 4 is 1 and place 3 where the entry begins, or both are 0 where none is left; places 5 to 7 are 0. The entry:
  *   0  its type
  *   1  its flags
@@ -80,7 +97,7 @@ void pt_read(const uint8_t *list, size_t list_len, uint16_t *row, size_t row_len
  *   3  its mask
  *   4  its object word, 0 where its type has none
  *   5  where its SID begins, counted from the entry's first byte
- *   6  the SID's length
+ *   6  the SID's length; in types 09 and 0A the expression follows, to the entry's end
  *   7  the place of what follows the entry, counted from the list's first byte
  * Refused, or where no entry is left, all eight are 0. */
 void pt_step(const uint8_t *list, size_t list_len, uint32_t place, uint32_t entry[8], uint32_t answer[8]);
@@ -91,17 +108,34 @@ void pt_step(const uint8_t *list, size_t list_len, uint32_t place, uint32_t entr
  * has the bit is an allow. An object entry counts only without an ObjectType, or with one that is type. A bit that no entry speaks
  * of is a no; an absent list, or a wanted mask of 0, is a yes. SIDs are compared byte for byte, placeholders like any other. Not
  * looked at: other flags than inherit only, an InheritedObjectType, spare bytes. Nothing is mapped: a generic bit in an entry's
- * mask says nothing about other bits (a list computed under rule 2 has none). Tests in order: wanted 14, the list 1 to 5 (list 0,
- * with the offset), held 6, then 7, all before the yes of an absent list or of nothing wanted. */
+ * mask says nothing about other bits (a list computed under rule 2 has none). Tests in order: wanted 14, the list 1 to 5 and 15
+ * (list 0, with the offset), held 6, then 7, all before the yes of an absent list or of nothing wanted. It is pt_may_open_with with
+ * an empty table: a conditional entry finds every name missing. */
 void pt_may_open(uint32_t has_list, const uint8_t *list, size_t list_len, const uint8_t type[16],
                  const uint8_t *held, size_t held_len, uint32_t wanted, uint32_t answer[8]);
+
+/* What an expression comes to by a table: place 3 is 0 for false, 1 for true, 2 for unknown. The expression is one as above,
+ * without zeros or with those up to a multiple of four; other zeros are 15. The table has records to its end, at most 32: the
+ * 16-bit length of a name in bytes, even and not 0, the name, and a signed 64-bit number, lowest byte first; no name comes twice.
+ * An empty table is fine. Names are compared as bytes. A comparison with a name that isn't in the table is unknown; Exists of it is
+ * false. False and unknown is false, true or unknown is true; else what is joined to unknown is unknown, and so is not unknown.
+ * Tests in order: the expression 15, the table 23, both with list and offset 0. */
+void pt_evaluate(const uint8_t *expression, size_t expression_len, const uint8_t *table, size_t table_len, uint32_t answer[8]);
+
+/* As pt_may_open, where the table says what is known of the one who asks. A conditional entry whose expression comes to false is
+ * passed over; where it comes to true it is an entry as 00 and 01 are; where it comes to unknown, a deny denies, and an allow is
+ * passed over: it grants nothing, and a later entry may still grant the bit. The table is tested last: 14, 1 to 5 and 15, 6, 7,
+ * then 23, also where there is no list or no conditional entry in it. */
+void pt_may_open_with(uint32_t has_list, const uint8_t *list, size_t list_len, const uint8_t type[16],
+                      const uint8_t *held, size_t held_len, uint32_t wanted, const uint8_t *table, size_t table_len,
+                      uint32_t answer[8]);
 
 /* Computes the list of a new object by MS-DTYP under rule 1 (the printed text) or 2 (what the library runs), onto the front of out;
  * bytes past the result stay as they were. mapping: read, write, execute, all, each joined to an entry's mask where that has
  * 80000000, 40000000, 20000000, 10000000. Under rule 2 these four bits are cleared then, those too that a mapping brought in; under
  * rule 1 they stay, and 10000000 joins nothing. What is passed for a list that isn't present is not looked at. Tests in order: rule
- * 12, parent, creator and default 1 to 5 (lists 1, 2, 3), owner and group 6, types 7, room 8. Refused, or where the result is
- * absent, no byte of out changes. */
+ * 12, parent, creator and default 1 to 5 and 15 (lists 1, 2, 3), owner and group 6, types 7, room 8. Refused, or where the result
+ * is absent, no byte of out changes. */
 void pt_compute(uint32_t rule, uint32_t settings, const uint32_t mapping[4],
                 const uint8_t *parent, size_t parent_len, const uint8_t *creator, size_t creator_len,
                 const uint8_t *default_, size_t default_len, const uint8_t *types, size_t types_len,
@@ -124,12 +158,12 @@ enum {
 size_t pt_room(uint32_t objects, uint32_t steps);
 
 /* Starts a tree: limits, rule, mapping, and a default list where has_default isn't 0. What the room holds is not looked at;
- * pt_room's bytes of it are written. Tests in order: 12, the default list 1 to 5 (list 3), 8. Answers zeros. */
+ * pt_room's bytes of it are written. Tests in order: 12, the default list 1 to 5 and 15 (list 3), 8. Answers zeros. */
 void pt_start(uint8_t *room, size_t room_len, uint32_t objects, uint32_t steps, uint32_t rule, const uint32_t mapping[4],
               uint32_t has_default, const uint8_t *default_, size_t default_len, uint32_t answer[8]);
 
 /* Changes. Each that is accepted is one kept step, and answers its object's computed list: length, present or absent, count.
- * Every computed list is worked out again from the root. Tests in order: 13, 9, 10, the list 1 to 5 (list 2), 6, 8.
+ * Every computed list is worked out again from the root. Tests in order: 13, 9, 10, the list 1 to 5 and 15 (list 2), 6, 8.
  * Objects are numbered from 0 in order of adding. parent: PT_NO_PARENT for the first object; a container for each later one. */
 void pt_add(uint8_t *room, size_t room_len, uint32_t parent, uint32_t traits, const uint8_t type[16],
             const uint8_t *owner, size_t owner_len, const uint8_t *group, size_t group_len,

@@ -1,6 +1,7 @@
 //! The calls of the C library, wrapped so that what is lent is watched.
 
 pub mod access;
+pub mod condition;
 pub mod lending;
 pub mod script;
 pub mod tree;

@@ -3,6 +3,7 @@
 mod access;
 mod capi;
 mod compute;
+mod condition;
 mod deep;
 mod floors;
 mod list;
@@ -13,12 +14,14 @@ mod repeat;
 mod report;
 mod script;
 mod tree;
+mod watched;
 
 use std::process::ExitCode;
 
 use report::Report;
 
-const USAGE: &str = "usage: compare list|compute|tree|deep|script|access --cases N --seed S
+const USAGE: &str =
+    "usage: compare list|compute|tree|deep|script|access|condition --cases N --seed S
        compare program PATH --cases N --seed S
        compare repeat time|count library|second WHAT TIMES     (bench/rows.txt names what)";
 
@@ -104,6 +107,7 @@ fn layer_by_name(name: &str) -> Option<fn(usize, u64) -> Report> {
         "deep" => Some(deep::compare),
         "script" => Some(script::compare),
         "access" => Some(access::compare),
+        "condition" => Some(condition::compare),
         _ => None,
     }
 }

@@ -1,11 +1,16 @@
 //! Changes to good bytes, mostly where a test looks.
 
 use second::cases::build::{EntryPlan, fix_size, list_of};
+use second::cases::condition::fresh::Attributes;
+use second::cases::condition::{bad_lists, damage};
 use second::cases::spoil::{one_of_each, spoilt};
+use second::condition::MOST_TOKENS;
+use second::list::List;
 use second::random::Random;
+use std::ops::Range;
 
-pub const TELLING: [u8; 19] = [
-    0, 1, 2, 3, 4, 5, 6, 7, 8, 0x0F, 0x10, 0x11, 0x14, 0x1F, 0x20, 0x40, 0x7F, 0x80, 0xFF,
+pub const TELLING: [u8; 21] = [
+    0, 1, 2, 3, 4, 5, 6, 7, 8, 9, 0x0A, 0x0F, 0x10, 0x11, 0x14, 0x1F, 0x20, 0x40, 0x7F, 0x80, 0xFF,
 ];
 
 pub fn changed_byte(random: &mut Random, old: u8) -> u8 {
@@ -26,7 +31,32 @@ fn change_at(random: &mut Random, bytes: &mut [u8], at: usize) {
     }
 }
 
+/// The most tokens of a condition: few in most lists.
+pub fn tokens(random: &mut Random) -> usize {
+    match random.below(16) {
+        0 => MOST_TOKENS,
+        _ => 8,
+    }
+}
+
+/// In one of three good lists plain entries are under conditions.
+pub fn conditional_at_times(random: &mut Random, list: Vec<u8>) -> Vec<u8> {
+    if random.chance(2, 3) {
+        return list;
+    }
+    let attributes = Attributes::draw(random);
+    let tokens = tokens(random);
+    attributes.under_conditions(random, &list, tokens)
+}
+
+/// Of a good list: in half of those with a conditional entry, what is behind
+/// one of their SIDs.
 pub fn mutate_list(random: &mut Random, list: &mut Vec<u8>) {
+    let expressions = expressions(list);
+    if !expressions.is_empty() && random.chance(1, 2) {
+        let place = random.pick(&expressions).clone();
+        return mutate_expression(random, list, place);
+    }
     match random.below(16) {
         0 | 1 => {
             let at = random.below(8);
@@ -42,6 +72,41 @@ pub fn mutate_list(random: &mut Random, list: &mut Vec<u8>) {
             let at = telling_place(random, list);
             change_at(random, list, at);
         }
+    }
+}
+
+/// Where expressions lie in a good list.
+fn expressions(list: &[u8]) -> Vec<Range<usize>> {
+    let entries = List::parse(list).map_or(Vec::new(), |list| list.entries);
+    let conditional = entries.iter().filter(|entry| entry.condition.is_some());
+    conditional
+        .map(|entry| {
+            let end = entry.offset + entry.bytes.len();
+            end - entry.expression.len()..end
+        })
+        .collect()
+}
+
+/// One byte, or a change after which the sizes follow as often as not.
+fn mutate_expression(random: &mut Random, list: &mut Vec<u8>, place: Range<usize>) {
+    if random.chance(1, 2) {
+        let at = place.start + random.below(place.len());
+        list[at] = damage::byte(random, list[at]);
+        return;
+    }
+    let mut expression = list[place.clone()].to_vec();
+    damage::expression(random, &mut expression);
+    let is_longer = expression.len() as isize - place.len() as isize;
+    let entry = entry_starts(list)
+        .into_iter()
+        .rfind(|&start| start < place.start)
+        .expect("an expression lies in an entry");
+    list.splice(place, expression);
+    fix_size(list);
+    if random.chance(1, 2) {
+        let size = u16::from_le_bytes([list[entry + 2], list[entry + 3]]);
+        let size = size.wrapping_add(is_longer as u16);
+        list[entry + 2..entry + 4].copy_from_slice(&size.to_le_bytes());
     }
 }
 
@@ -115,6 +180,9 @@ fn entry_starts(list: &[u8]) -> Vec<usize> {
 /// Bad by its revision, or by one of the tests of an entry: so every number
 /// comes about as often.
 pub fn bad_list(random: &mut Random) -> Vec<u8> {
+    if random.chance(1, 8) {
+        return random.pick(&bad_lists()).clone();
+    }
     let plans: Vec<EntryPlan> = (0..1 + random.below(4))
         .map(|_| EntryPlan::random(random, true))
         .collect();

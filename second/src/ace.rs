@@ -25,6 +25,8 @@ pub struct Ace {
     pub object_type: Option<Guid>,
     pub inherited_object_type: Option<Guid>,
     pub sid: Identity,
+    /// Of conditional entries alone, as it stood; the others' is empty.
+    pub expression: Vec<u8>,
 }
 
 impl From<&Entry<'_>> for Ace {
@@ -36,6 +38,7 @@ impl From<&Entry<'_>> for Ace {
             object_type: entry.object_type.copied(),
             inherited_object_type: entry.inherited_object_type.copied(),
             sid: Identity::parse(entry.sid).expect("a parsed entry holds one SID"),
+            expression: entry.expression.to_vec(),
         }
     }
 }
@@ -74,12 +77,15 @@ impl Ace {
         let guids = [self.object_type, self.inherited_object_type];
         bytes.extend(guids.into_iter().flatten().flatten());
         bytes.extend(self.sid.bytes());
+        bytes.extend(&self.expression);
         bytes
     }
 
+    /// An expression may leave no room for a longer SID before it: where the
+    /// size has over 16 bits, no list holds the entry, whatever its size says.
     pub fn bytes(&self) -> Vec<u8> {
         let rest = self.bytes_after_size();
-        let size = u16::try_from(4 + rest.len()).expect("no entry is over 112 bytes");
+        let size = (4 + rest.len()) as u16;
         let mut bytes = vec![self.entry_type.byte(), self.flags];
         bytes.extend(size.to_le_bytes());
         bytes.extend(rest);

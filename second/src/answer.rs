@@ -35,12 +35,12 @@ impl Answer {
         }
     }
 
-    /// A refusal's other fields are zero; from 6 on the offset is too.
+    /// A refusal's other fields are zero; but for 1 to 5 and 15 so are list and
+    /// offset.
     pub fn refused(refusal: Refusal, list: u32) -> Answer {
-        let number = refusal.fault.number();
-        let concerns_a_list = number < 6;
+        let concerns_a_list = refusal.fault.is_of_list();
         Answer {
-            number,
+            number: refusal.fault.number(),
             list: if concerns_a_list { list } else { 0 },
             offset: if concerns_a_list {
                 narrow(refusal.offset)

@@ -1,7 +1,8 @@
 //! The independent second program: reads and refuses access lists and
 //! identities, computes a new object's list, keeps a tree of objects with undo
-//! and plays scripts, by document 01; says who may open and walks a list, by
-//! document 02. It shares nothing with the verified code.
+//! and plays scripts, by document 01; says who may open, walks a list and
+//! evaluates conditions, by document 02. It shares nothing with the verified
+//! code.
 #![forbid(unsafe_code)]
 
 pub mod access;
@@ -9,6 +10,7 @@ pub mod ace;
 pub mod answer;
 pub mod cases;
 pub mod computing;
+pub mod condition;
 pub mod examples;
 pub mod hex;
 pub mod identity;

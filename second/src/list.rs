@@ -1,5 +1,6 @@
 //! Access lists, taken apart entry by entry.
 
+use crate::condition::{Condition, Expression, padded_length};
 use crate::identity;
 use crate::refusal::{Fault, Refusal};
 
@@ -22,6 +23,8 @@ pub enum EntryType {
     Deny,
     ObjectAllow,
     ObjectDeny,
+    ConditionalAllow,
+    ConditionalDeny,
 }
 
 #[derive(Clone, Debug, PartialEq, Eq)]
@@ -34,6 +37,10 @@ pub struct Entry<'a> {
     pub object_type: Option<&'a Guid>,
     pub inherited_object_type: Option<&'a Guid>,
     pub sid: &'a [u8],
+    /// Of conditional entries alone.
+    pub condition: Option<Condition<'a>>,
+    /// What is behind the SID: the condition's stored form with its zeros.
+    pub expression: &'a [u8],
 }
 
 #[derive(Clone, Debug, PartialEq, Eq)]
@@ -89,6 +96,8 @@ impl EntryType {
             (1, _) => Some(EntryType::Deny),
             (5, Revision::WithObjects) => Some(EntryType::ObjectAllow),
             (6, Revision::WithObjects) => Some(EntryType::ObjectDeny),
+            (9, _) => Some(EntryType::ConditionalAllow),
+            (10, _) => Some(EntryType::ConditionalDeny),
             _ => None,
         }
     }
@@ -99,11 +108,27 @@ impl EntryType {
             EntryType::Deny => 1,
             EntryType::ObjectAllow => 5,
             EntryType::ObjectDeny => 6,
+            EntryType::ConditionalAllow => 9,
+            EntryType::ConditionalDeny => 10,
         }
     }
 
     pub fn is_object(self) -> bool {
         matches!(self, EntryType::ObjectAllow | EntryType::ObjectDeny)
+    }
+
+    pub fn is_allow(self) -> bool {
+        matches!(
+            self,
+            EntryType::Allow | EntryType::ObjectAllow | EntryType::ConditionalAllow
+        )
+    }
+
+    pub fn is_conditional(self) -> bool {
+        matches!(
+            self,
+            EntryType::ConditionalAllow | EntryType::ConditionalDeny
+        )
     }
 }
 
@@ -137,14 +162,33 @@ fn take_object_word(entry_type: EntryType, rest: &mut &[u8]) -> Result<u32, Faul
     Ok(word)
 }
 
-/// (f) last part, (g) and (h): the SID is all that is left of the entry.
-fn whole_sid(rest: &[u8]) -> Result<&[u8], Fault> {
+/// (f) last part, (g), and of (h) that the SID ends within the size.
+fn take_sid<'a>(rest: &mut &'a [u8]) -> Result<&'a [u8], Fault> {
     let head = rest.first_chunk().ok_or(Fault::NoGuidOrSidHead)?;
     let length = identity::length_by_head(head).ok_or(Fault::SidHead)?;
+    let (sid, behind) = rest.split_at_checked(length).ok_or(Fault::InexactSize)?;
+    *rest = behind;
+    Ok(sid)
+}
+
+/// The expression, then (h): zeros up to a multiple of four and no more, and
+/// behind the SID of any other entry nothing. A SID and what is before it have
+/// a multiple of four.
+fn take_condition<'a>(
+    entry_type: EntryType,
+    rest: &'a [u8],
+) -> Result<Option<Condition<'a>>, Fault> {
+    let (condition, length) = if entry_type.is_conditional() {
+        let expression = Expression::parse(rest).map_err(|_| Fault::Expression)?;
+        let length = padded_length(expression.length);
+        (Some(expression.condition), length)
+    } else {
+        (None, 0)
+    };
     if length != rest.len() {
         return Err(Fault::InexactSize);
     }
-    Ok(rest)
+    Ok(condition)
 }
 
 impl<'a> Entry<'a> {
@@ -163,6 +207,7 @@ impl<'a> Entry<'a> {
         let word = take_object_word(entry_type, &mut rest)?;
         let object_type = take_guid(word & HAS_OBJECT_TYPE != 0, &mut rest)?;
         let inherited_object_type = take_guid(word & HAS_INHERITED_OBJECT_TYPE != 0, &mut rest)?;
+        let sid = take_sid(&mut rest)?;
         Ok(Entry {
             offset,
             bytes,
@@ -171,7 +216,9 @@ impl<'a> Entry<'a> {
             mask,
             object_type,
             inherited_object_type,
-            sid: whole_sid(rest)?,
+            sid,
+            condition: take_condition(entry_type, rest)?,
+            expression: rest,
         })
     }
 }
@@ -198,6 +245,12 @@ impl<'a> List<'a> {
 /// How many spare bytes a good list has; 0 for one that is refused.
 pub fn spare_bytes(list: &[u8]) -> usize {
     List::parse(list).map_or(0, |parsed| list.len() - parsed.end)
+}
+
+/// Whether a good list has a conditional entry; one that is refused has none.
+pub fn has_conditions(list: &[u8]) -> bool {
+    let entries = List::parse(list).map_or(Vec::new(), |list| list.entries);
+    entries.iter().any(|entry| entry.condition.is_some())
 }
 
 #[cfg(test)]

@@ -16,6 +16,7 @@ const USAGE: &str = "usage:
   second cases tree             write the stored calls on a tree
   second cases script           write the stored scripts
   second cases access           write the stored questions who may open, and steps through lists
+  second cases condition        write the stored expressions and tables
   second sample EVERY           write one of so many cases of the case file on standard input
   second answer                 answer the case file on standard input
   second check-examples FILE    compare with the answers written by hand
@@ -38,6 +39,7 @@ fn main() -> ExitCode {
         ["cases", "tree"] => write_cases(&cases::tree::all()),
         ["cases", "script"] => write_cases(&cases::script::all()),
         ["cases", "access"] => write_cases(&cases::access::all()),
+        ["cases", "condition"] => write_cases(&cases::condition::all()),
         ["sample", every] => sample(every),
         ["answer"] => answer(),
         ["check-examples", path] => check_examples(path),

@@ -2,8 +2,10 @@
 
 pub mod calls;
 mod computation;
+mod conditional;
 mod opening;
 mod playing;
+mod reader;
 
 use crate::access::Question;
 use crate::computing::Request;
@@ -12,6 +14,7 @@ use crate::identity::{self, Identity, LONGEST};
 use crate::reading;
 use crate::tree::{Call, Player};
 pub use computation::{LONGEST_OTHER, LONGEST_ROOM, fresh_room};
+pub use conditional::{LONGEST_EXPRESSION, LONGEST_TABLE};
 pub use opening::LONGEST_HELD;
 pub use playing::LONGEST_SCRIPT;
 
@@ -30,6 +33,8 @@ pub enum Case {
     Play { script: Vec<u8>, out_length: u16 },
     MayOpen(Question),
     Step { list: Vec<u8>, place: u32 },
+    Evaluate { expression: Vec<u8>, table: Vec<u8> },
+    MayOpenWith { question: Question, table: Vec<u8> },
 }
 
 impl Case {
@@ -47,6 +52,12 @@ impl Case {
             Case::Play { script, out_length } => return playing::encode(script, *out_length, out),
             Case::MayOpen(question) => return opening::encode(question, out),
             Case::Step { list, place } => return opening::encode_step(list, *place, out),
+            Case::Evaluate { expression, table } => {
+                return conditional::encode_evaluate(expression, table, out);
+            }
+            Case::MayOpenWith { question, table } => {
+                return conditional::encode(question, table, out);
+            }
         };
         out.extend_from_slice(&[kind, 0]);
         out.extend_from_slice(&row_length.to_le_bytes());
@@ -89,6 +100,8 @@ fn decode(file: &[u8]) -> Result<(Case, &[u8]), &'static str> {
         Some(&playing::KIND) => return playing::decode(file),
         Some(&opening::MAY_OPEN) => return opening::decode(file),
         Some(&opening::STEP) => return opening::decode_step(file),
+        Some(&conditional::EVALUATE) => return conditional::decode_evaluate(file),
+        Some(&conditional::MAY_OPEN_WITH) => return conditional::decode(file),
         _ => {}
     }
     let (head, rest) = file.split_first_chunk::<8>().ok_or("cut head")?;
@@ -145,6 +158,8 @@ fn answer_line(case: &Case, player: &mut Player) -> String {
         Case::Play { script, out_length } => playing::lines(script, *out_length),
         Case::MayOpen(question) => opening::line(question),
         Case::Step { list, place } => opening::step_line(list, *place),
+        Case::Evaluate { expression, table } => conditional::evaluate_line(expression, table),
+        Case::MayOpenWith { question, table } => conditional::line(question, table),
     }
 }
 

@@ -21,13 +21,15 @@ pub enum Fault {
     NoGuidOrSidHead,
     /// (g)
     SidHead,
+    /// Between (g) and (h), where the SID ends within the size
+    Expression,
     /// (h)
     InexactSize,
     RowTooShort,
 }
 
 impl Fault {
-    pub const ALL: [Fault; 13] = [
+    pub const ALL: [Fault; 14] = [
         Fault::HeaderCut,
         Fault::Revision,
         Fault::HeaderNotZero,
@@ -39,6 +41,7 @@ impl Fault {
         Fault::ObjectWord,
         Fault::NoGuidOrSidHead,
         Fault::SidHead,
+        Fault::Expression,
         Fault::InexactSize,
         Fault::RowTooShort,
     ];
@@ -54,7 +57,13 @@ impl Fault {
             Fault::EntryFlags | Fault::ObjectWord => 4,
             Fault::SidHead => 5,
             Fault::RowTooShort => 8,
+            Fault::Expression => 15,
         }
+    }
+
+    /// Whether it is in the list itself: 1 to 5 and 15.
+    pub fn is_of_list(self) -> bool {
+        self != Fault::RowTooShort
     }
 
     pub fn name(self) -> &'static str {
@@ -70,6 +79,7 @@ impl Fault {
             Fault::ObjectWord => "(e) object word",
             Fault::NoGuidOrSidHead => "(f) no GUIDs or SID head",
             Fault::SidHead => "(g) SID",
+            Fault::Expression => "expression",
             Fault::InexactSize => "(h) inexact size",
             Fault::RowTooShort => "row too short",
         }

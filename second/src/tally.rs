@@ -2,8 +2,9 @@
 
 use std::collections::BTreeMap;
 
-use crate::access::{self, Question};
+use crate::access::{self, Question, Refused, Verdict};
 use crate::computing::{self, Request, WhichList};
+use crate::condition;
 use crate::identity;
 use crate::list::spare_bytes;
 use crate::reading;
@@ -28,7 +29,8 @@ impl Tally {
             }
             match case {
                 Case::Compute { request, room } => tally.add_spare_bytes(request, *room),
-                Case::MayOpen(question) => tally.add_spare_bytes_of_question(question),
+                Case::MayOpen(question) => tally.add_question(question, &[]),
+                Case::MayOpenWith { question, table } => tally.add_question(question, table),
                 Case::Step { list, .. } if spare_bytes(list) > 0 => {
                     tally.add("step 0  spare bytes".to_string());
                 }
@@ -68,12 +70,25 @@ impl Tally {
         }
     }
 
-    /// Where there is a list that has them, and the question is answered.
-    fn add_spare_bytes_of_question(&mut self, question: &Question) {
-        let list = question.present_list();
-        let has_some = list.is_some_and(|list| spare_bytes(list) > 0);
-        if has_some && access::try_may_open(question).is_ok() {
+    /// Where there is a list and the question is answered: its spare bytes, and
+    /// what its conditions come to.
+    fn add_question(&mut self, question: &Question, table: &[u8]) {
+        let Some(list) = question.present_list() else {
+            return;
+        };
+        if access::try_may_open_with(question, table).is_err() {
+            return;
+        }
+        if spare_bytes(list) > 0 {
             self.add("may open 0  spare bytes".to_string());
+        }
+        for (entry_type, truth) in access::truths(list, table) {
+            let what = if entry_type.is_allow() {
+                "allow"
+            } else {
+                "deny"
+            };
+            self.add(format!("may open 0  {what}: {}", truth.name()));
         }
     }
 
@@ -105,7 +120,11 @@ fn label(case: &Case, player: &mut Player) -> String {
         Case::Compute { request, room } => compute_label(request, *room),
         Case::Tree(call) => call_label("tree", call, &player.play(call)),
         Case::Play { .. } => unreachable!("a script is counted record by record"),
-        Case::MayOpen(question) => may_open_label(question),
+        Case::MayOpen(question) => may_open_label("may open", access::try_may_open(question)),
+        Case::MayOpenWith { question, table } => {
+            may_open_label("may open with", access::try_may_open_with(question, table))
+        }
+        Case::Evaluate { expression, table } => evaluate_label(expression, table),
         Case::Step { list, place } => step_label(list, *place),
     }
 }
@@ -149,12 +168,22 @@ fn compute_label(request: &Request, room: usize) -> String {
     }
 }
 
-fn may_open_label(question: &Question) -> String {
-    match access::try_may_open(question) {
-        Ok(verdict) => format!("may open 0  {}", verdict.name()),
+fn may_open_label(call: &str, answered: Result<Verdict, Refused>) -> String {
+    match answered {
+        Ok(verdict) => format!("{call} 0  {}", verdict.name()),
         Err(refused) => {
             let number = refused.answer().number;
-            format!("may open {number}  {}", refused.name())
+            format!("{call} {number}  {}", refused.name())
+        }
+    }
+}
+
+fn evaluate_label(expression: &[u8], table: &[u8]) -> String {
+    match condition::try_evaluate(expression, table) {
+        Ok(truth) => format!("evaluate 0  {}", truth.name()),
+        Err(refused) => {
+            let number = refused.answer().number;
+            format!("evaluate {number}  {}", refused.name())
         }
     }
 }

@@ -1,13 +1,13 @@
 //! What an answer hangs on: the second program is asked again with one thing
 //! changed.
 
-use second::access::{Question, held_sids, try_may_open};
-use second::ace::INHERIT_ONLY;
+use second::access::{Question, held_sids, try_may_open_with};
+use second::ace::{Ace, INHERIT_ONLY};
 use second::cases::build::{list_of, with_count};
-use second::list::List;
+use second::list::{Entry, EntryType, List};
 
 /// Names for the report, of a question that is answered with this yes or no.
-pub fn what_decides(question: &Question, is_yes: bool) -> Vec<&'static str> {
+pub fn what_decides(question: &Question, table: &[u8], is_yes: bool) -> Vec<&'static str> {
     let Some(list) = question.present_list() else {
         return Vec::new();
     };
@@ -19,6 +19,7 @@ pub fn what_decides(question: &Question, is_yes: bool) -> Vec<&'static str> {
     let changed = [
         ("IO decides", of_list(without_inherit_only(list))),
         ("the order decides", of_list(in_reverse(list))),
+        ("a condition decides", of_list(without_conditions(list))),
         (
             "a spare entry would decide",
             of_list(showing_one_more(list)),
@@ -32,11 +33,18 @@ pub fn what_decides(question: &Question, is_yes: bool) -> Vec<&'static str> {
             question.clone().with_held(all_but_the_last(&question.held)),
         ),
     ];
-    let decides = changed.into_iter().filter(|(_, changed)| {
-        let answered = try_may_open(changed);
+    let otherwise = |question: &Question, table: &[u8]| {
+        let answered = try_may_open_with(question, table);
         answered.is_ok_and(|verdict| verdict.is_yes() != is_yes)
-    });
-    decides.map(|(name, _)| name).collect()
+    };
+    let decides = changed
+        .into_iter()
+        .filter(|(_, changed)| otherwise(changed, table));
+    let mut names: Vec<&'static str> = decides.map(|(name, _)| name).collect();
+    if otherwise(question, &[]) {
+        names.push("the table decides");
+    }
+    names
 }
 
 fn parsed(list: &[u8]) -> List<'_> {
@@ -49,6 +57,25 @@ fn without_inherit_only(list: &[u8]) -> Vec<u8> {
         changed[entry.offset + 1] &= !INHERIT_ONLY;
     }
     changed
+}
+
+/// Types 00 and 01 in their place.
+fn without_conditions(list: &[u8]) -> Vec<u8> {
+    let plain = |entry: &Entry| {
+        let entry_type = match entry.entry_type {
+            EntryType::ConditionalAllow => EntryType::Allow,
+            EntryType::ConditionalDeny => EntryType::Deny,
+            other => other,
+        };
+        let ace = Ace {
+            entry_type,
+            expression: Vec::new(),
+            ..Ace::from(entry)
+        };
+        ace.bytes()
+    };
+    let entries: Vec<Vec<u8>> = parsed(list).entries.iter().map(plain).collect();
+    list_of(list[0], &entries)
 }
 
 fn in_reverse(list: &[u8]) -> Vec<u8> {

@@ -2,13 +2,15 @@
 
 use super::share::share;
 use crate::list::generate as reading;
-use crate::mutate::{bad_list, mutate_identity, mutate_list};
+use crate::mutate::{bad_list, conditional_at_times, mutate_identity, mutate_list, tokens};
 use second::access::{MOST_HELD, Question};
 use second::cases::access::fresh;
 use second::cases::build::{
     EntryPlan, MOST_NUMBERS, fix_size, hiding_some, list_of, nt_sid, random_list, random_sid,
     random_spare, with_spare,
 };
+use second::cases::condition::damage;
+use second::cases::condition::fresh::Attributes;
 use second::list::{HEADER_LENGTH, List};
 use second::random::Random;
 use second::records::LONGEST_HELD;
@@ -21,6 +23,8 @@ const MANY_ENTRIES: usize = 40;
 pub enum Subject {
     Question {
         question: Question,
+        /// What is known of the person.
+        table: Vec<u8>,
         /// Parts that are the same bytes are to be one range.
         together: bool,
     },
@@ -41,19 +45,40 @@ pub fn subject(random: &mut Random) -> Subject {
         }
         1 => Subject::Walk(walk_list(random)),
         _ => {
+            let attributes = Attributes::draw(random);
             let together = random.chance(1, 8);
-            let question = question(random, together);
-            Subject::Question { question, together }
+            let question = question(random, &attributes, together);
+            Subject::Question {
+                question,
+                table: table(random, &attributes),
+                together,
+            }
         }
     }
 }
 
-fn question(random: &mut Random, together: bool) -> Question {
+/// None at all as often as not; one in eight is spoilt.
+fn table(random: &mut Random, attributes: &Attributes) -> Vec<u8> {
+    if random.chance(1, 2) {
+        return Vec::new();
+    }
+    let mut table = attributes.table(random);
+    if random.chance(1, 8) {
+        damage::table(random, &mut table);
+    }
+    table
+}
+
+fn question(random: &mut Random, attributes: &Attributes, together: bool) -> Question {
     let most = match random.below(30) {
         0 => MANY_ENTRIES,
         _ => FEW_ENTRIES,
     };
     let mut question = fresh::question(random, most);
+    if random.chance(2, 3) {
+        let tokens = tokens(random);
+        question.list = attributes.under_conditions(random, &question.list, tokens);
+    }
     if random.chance(1, 400) {
         question.list = behind_many(random, &question.list);
     }
@@ -206,6 +231,7 @@ fn walk_list(random: &mut Random) -> Vec<u8> {
     };
     let revision = *random.pick(&[2, 4, 4]);
     let list = random_list(random, revision, count);
+    let list = conditional_at_times(random, list);
     match random.below(6) {
         0 => hiding_some(random, &list),
         1 => {

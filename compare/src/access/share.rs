@@ -28,8 +28,8 @@ fn guids<'a>(entry: &Entry<'a>) -> impl Iterator<Item = &'a second::list::Guid> 
 }
 
 /// The parts that a call reads.
-pub fn parts(question: &Question) -> [&[u8]; 3] {
-    [&question.list, &question.object_type, &question.held]
+pub fn parts<'a>(question: &'a Question, table: &'a [u8]) -> [&'a [u8]; 4] {
+    [&question.list, &question.object_type, &question.held, table]
 }
 
 /// By a list that is looked at.

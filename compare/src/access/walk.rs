@@ -1,11 +1,11 @@
 //! Single steps, and lists walked whole.
 
 use super::told;
-use super::watched::Watched;
 use crate::capi;
 use crate::capi::WhenEmpty;
 use crate::capi::lending::Lending;
 use crate::report::Report;
+use crate::watched::Watched;
 use second::list::{List, spare_bytes};
 use second::random::Random;
 use second::records::Case;
@@ -105,7 +105,8 @@ fn count_step(report: &mut Report, list: &[u8], place: u32, step: &Step) {
             "a step from within an entry",
             is_there == 1 && 8 < place && place < begin as usize,
         ),
-        ("a step to an object entry", step.entry[0] >= 5),
+        ("a step to an object entry", matches!(step.entry[0], 5 | 6)),
+        ("a step to a conditional entry", step.entry[0] >= 9),
         ("a step from spare bytes", in_spare_bytes),
         ("a step past 65,535", place > 0xFFFF),
     ];

@@ -16,6 +16,18 @@ unsafe extern "C" {
         wanted: c_uint,
         answer: *mut c_uint,
     );
+    fn pt_may_open_with(
+        has_list: c_uint,
+        list: *const u8,
+        list_length: usize,
+        object_type: *const u8,
+        held: *const u8,
+        held_length: usize,
+        wanted: c_uint,
+        table: *const u8,
+        table_length: usize,
+        answer: *mut c_uint,
+    );
     fn pt_step(
         list: *const u8,
         list_length: usize,
@@ -38,6 +50,24 @@ pub fn may_open(question: &Question, answer: &mut [u32; 8], lending: &Lending) {
             lending.pointer(&question.held),
             question.held.len(),
             question.wanted,
+            answer.as_mut_ptr(),
+        );
+    }
+}
+
+pub fn may_open_with(question: &Question, table: &[u8], answer: &mut [u32; 8], lending: &Lending) {
+    // SAFETY: as above.
+    unsafe {
+        pt_may_open_with(
+            question.has_list,
+            lending.pointer(&question.list),
+            question.list.len(),
+            lending.pointer(&question.object_type),
+            lending.pointer(&question.held),
+            question.held.len(),
+            question.wanted,
+            lending.pointer(table),
+            table.len(),
             answer.as_mut_ptr(),
         );
     }

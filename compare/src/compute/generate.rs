@@ -3,7 +3,7 @@
 
 use super::masks::ask_for_generic_bits;
 use super::share::share;
-use crate::mutate::{mutate_identity, mutate_list};
+use crate::mutate::{conditional_at_times, mutate_identity, mutate_list};
 use second::ace::LONGEST_LIST;
 use second::cases::build::{EntryPlan, creator_sid, good_list, list_of_plans, nt_sid, random_list};
 use second::cases::inherit::spare::roomy;
@@ -33,6 +33,7 @@ pub fn case(random: &mut Random) -> Case {
             FEW_ENTRIES
         };
         let request = fresh::request(random, most);
+        let request = with_conditions(random, request);
         if random.chance(1, 4) {
             roomy(random, request, spare_length)
         } else {
@@ -56,6 +57,15 @@ pub fn case(random: &mut Random) -> Case {
         request,
         room,
         together,
+    }
+}
+
+fn with_conditions(random: &mut Random, request: Request) -> Request {
+    Request {
+        parent: conditional_at_times(random, request.parent),
+        creator: conditional_at_times(random, request.creator),
+        default_list: conditional_at_times(random, request.default_list),
+        ..request
     }
 }
 

@@ -102,7 +102,7 @@ fn count_full_control(report: &mut Report, branch: Branch, list: &[u8], without:
         ),
         (
             "by rule 2, 10000000 decides in an object entry",
-            of_entries(|entry_type, _| entry_type >= 5),
+            of_entries(|entry_type, _| matches!(entry_type, 5 | 6)),
         ),
     ];
     for (what, _) in found.into_iter().filter(|&(_, yes)| yes) {

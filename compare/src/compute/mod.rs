@@ -1,5 +1,6 @@
 //! Computing a new object's list.
 
+mod conditional;
 mod generate;
 mod lent;
 mod masks;
@@ -53,6 +54,7 @@ fn compare_one(random: &mut Random, report: &mut Report, fresh: &Fresh) {
             report.add_branch(done.branch.name());
             let list = &our_room[inside.clone()][..done.answer.length as usize];
             without_all = masks::count(report, request, done.branch, list);
+            conditional::count(report, request, list);
             done.answer.eight()
         }
         Err(refused) => {

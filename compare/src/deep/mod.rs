@@ -8,6 +8,7 @@ mod press;
 use crate::floors;
 use crate::report::Report;
 use crate::tree::check::{Both, Ours};
+use crate::tree::conditional_at_times;
 use crate::tree::generate::{read, room_length};
 use crate::tree::told::Told;
 use generate::{Maker, Profile};
@@ -44,9 +45,10 @@ pub fn compare(cases: usize, seed: u64) -> Report {
     let mut report = Report::new("deep", &floors::DEEP);
     for number in 1..=cases {
         let mut random = Random::new(seeds.draw());
+        let palette = Palette::of_weight(&mut random, true).with_spare_bytes();
         let maker = Maker {
             profile: PROFILES[number % PROFILES.len()],
-            palette: Palette::of_weight(&mut random, true).with_spare_bytes(),
+            palette: conditional_at_times(&mut random, palette),
             loaded_from: LOADED_FROM[number / 2 % LOADED_FROM.len()],
         };
         let rule = if number.is_multiple_of(ONE_IN) { 1 } else { 2 };

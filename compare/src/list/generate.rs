@@ -1,6 +1,6 @@
 //! Fresh random cases.
 
-use crate::mutate::{TELLING, changed_byte, mutate_identity, mutate_list};
+use crate::mutate::{TELLING, changed_byte, conditional_at_times, mutate_identity, mutate_list};
 use second::ace::LONGEST_LIST;
 use second::cases::build::{
     EntryPlan, MOST_NUMBERS, creator_sid, fix_size, hiding_some, list_of, list_of_plans,
@@ -41,7 +41,8 @@ pub fn list(random: &mut Random) -> (Vec<u8>, usize) {
     }
     let count = entry_count(random);
     let revision = *random.pick(&[2, 4, 4]);
-    let mut good = random_list(random, revision, count);
+    let good = random_list(random, revision, count);
+    let mut good = conditional_at_times(random, good);
     if random.chance(1, 4) {
         good = roomy(random, &good);
     }

@@ -7,7 +7,7 @@ use crate::floors;
 use crate::report::Report;
 use generate::Subject;
 use second::cases::build::with_count;
-use second::list::{List, spare_bytes};
+use second::list::{List, has_conditions, spare_bytes};
 use second::random::Random;
 use second::{hex, identity, reading};
 
@@ -72,6 +72,9 @@ fn compare_read(random: &mut Random, report: &mut Report, list: &[u8], row_lengt
         format!("read row {row_length} list {list}: {what}")
     });
     count_spare_bytes(report, list, &ours);
+    if ours[0] == 0 && has_conditions(list) {
+        report.add_branch("read with a condition");
+    }
     if list.len() > LONG {
         report.add_call("read of a long list", ours[0]);
         report.reach("longest list that was read", ours[3] as usize);

@@ -2,7 +2,7 @@
 //! changed in some bytes, of noise, or with a bad head.
 
 use crate::mutate::{bad_list, changed_byte};
-use crate::tree::{roomy_at_times, spoil};
+use crate::tree::{conditional_at_times, roomy_at_times, spoil};
 use second::cases::build::{random_spare, with_spare};
 use second::cases::script::fresh;
 use second::cases::tree::make::{list_of_length, set_list};
@@ -40,6 +40,7 @@ fn good(random: &mut Random) -> Vec<u8> {
     let heavy = random.chance(1, 4);
     let palette = Palette::of_weight(random, heavy);
     let palette = roomy_at_times(random, palette);
+    let palette = conditional_at_times(random, palette);
     let wanted = 10 + random.below(51);
     let seldom = *random.pick(&[6, 12, 1_000]);
     fresh::records(random, &palette, wanted, |random, change| {
@@ -54,6 +55,7 @@ fn good(random: &mut Random) -> Vec<u8> {
 pub fn full_of_refusals(random: &mut Random) -> Vec<u8> {
     let palette = Palette::of_weight(random, true);
     let palette = roomy_at_times(random, palette);
+    let palette = conditional_at_times(random, palette);
     let wanted = 60 + random.below(61);
     fresh::records(random, &palette, wanted, |random, change| match change {
         Change::Add(Add { list, .. }) | Change::SetList { list, .. }

@@ -34,8 +34,7 @@ pub fn compare(cases: usize, seed: u64) -> Report {
 
 fn one(random: &mut Random, report: &mut Report) -> Result<(), String> {
     let palette = Palette::draw(random);
-    let palette = roomy_at_times(random, palette);
-    let palette = generic_at_times(random, palette);
+    let palette = varied(random, palette);
     let room = sequence(random, report, &palette)?;
     for _ in 0..random.below(3) {
         let damaged = damage::damaged(random, &room);
@@ -50,14 +49,28 @@ fn one(random: &mut Random, report: &mut Report) -> Result<(), String> {
         let large = random.chance(1, 40);
         let heavy = !large && random.chance(3, 4);
         let palette = Palette::of_weight(random, heavy);
-        let palette = roomy_at_times(random, palette);
-        let palette = generic_at_times(random, palette);
+        let palette = varied(random, palette);
         let (found, room) = made::room(random, &palette, large);
         check::is_found(&room, &found)?;
         on_any_room(random, report, &palette, &room)
             .map_err(|what| format!("{what}, on a room made of {}", told::tree(&found)))?;
     }
     Ok(())
+}
+
+fn varied(random: &mut Random, palette: Palette) -> Palette {
+    let palette = roomy_at_times(random, palette);
+    let palette = generic_at_times(random, palette);
+    conditional_at_times(random, palette)
+}
+
+/// In every third case entries are under conditions.
+pub fn conditional_at_times(random: &mut Random, palette: Palette) -> Palette {
+    if random.chance(1, 3) {
+        palette.with_conditions()
+    } else {
+        palette
+    }
 }
 
 /// In every third case lists have spare bytes.

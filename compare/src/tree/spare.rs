@@ -1,15 +1,19 @@
-//! What is counted of lists with spare bytes, given to a tree and read back.
+//! What is counted of lists with spare bytes, and of lists with conditions,
+//! given to a tree and read back.
 
 use crate::report::Report;
-use second::list::spare_bytes;
+use second::list::{has_conditions, spare_bytes};
 use second::room::{Found, Step};
 use second::tree::{Call, Change, LONGEST_LIST, Outcome, Part, Refused};
 
 /// By what the second program made of the call.
 pub fn count(report: &mut Report, call: &Call, outcome: &Outcome) {
     match outcome.result() {
-        Some(Ok(_)) if meets_some(call, outcome) => {
-            if let Some(name) = name(call) {
+        Some(Ok(_)) => {
+            let list = met(call, outcome).unwrap_or_default();
+            let met = [spare_bytes(list) > 0, has_conditions(list)];
+            let names = names(call).into_iter().flatten().zip(met);
+            for (name, _) in names.filter(|&(_, yes)| yes) {
                 report.add_times(name, 1);
             }
         }
@@ -23,14 +27,20 @@ pub fn count(report: &mut Report, call: &Call, outcome: &Outcome) {
     }
 }
 
-fn name(call: &Call) -> Option<&'static str> {
+/// Where there are spare bytes, and where there is a condition.
+fn names(call: &Call) -> Option<[&'static str; 2]> {
     match call {
-        Call::Start { .. } => Some("start with spare bytes"),
-        Call::Change(Change::Add(_)) => Some("add with spare bytes"),
-        Call::Change(Change::SetList { .. }) => Some("set list with spare bytes"),
+        Call::Start { .. } => Some(["start with spare bytes", "start with a condition"]),
+        Call::Change(Change::Add(_)) => Some(["add with spare bytes", "add with a condition"]),
+        Call::Change(Change::SetList { .. }) => {
+            Some(["set list with spare bytes", "set list with a condition"])
+        }
         Call::Read { part, .. } => match part {
-            Part::Own => Some("own list with spare bytes"),
-            Part::List => Some("computed list with spare bytes"),
+            Part::Own => Some(["own list with spare bytes", "own list with a condition"]),
+            Part::List => Some([
+                "computed list with spare bytes",
+                "computed list with a condition",
+            ]),
             Part::Data => None,
         },
         _ => None,
@@ -45,13 +55,12 @@ fn given(call: &Call) -> Option<&[u8]> {
     }
 }
 
-/// In the list that was given, or in the one that was read back.
-fn meets_some(call: &Call, outcome: &Outcome) -> bool {
-    let list = match outcome {
+/// The list that was given, or the one that was read back.
+fn met<'a>(call: &'a Call, outcome: &'a Outcome) -> Option<&'a [u8]> {
+    match outcome {
         Outcome::ReadBack(Ok(answer), out) => out.get(..answer.length as usize),
         _ => given(call),
-    };
-    list.is_some_and(|list| spare_bytes(list) > 0)
+    }
 }
 
 /// Where the lists of a room that was handed in have them.

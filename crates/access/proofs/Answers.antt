@@ -7,7 +7,7 @@ use Prim.Native.Nat.{ℕ, _≤_}
 use native.Mathlib.Omega.{arith}
 use lib.ListN.{length}
 use lib.Dec.{eqb}
-use Rattle.list.specs.Bytes.{has, among}
+use Rattle.octets.specs.Bytes.{has, among}
 use Rattle.list.specs.Identity.{isSid, placeholderOf}
 use Rattle.list.specs.Entry.{access, kindOf, sidOf}
 use Rattle.list.specs.List.{MaybeList, entriesOf, checkOf}
@@ -20,7 +20,7 @@ use Rattle.access.specs.declared.Access.the-variants.{Yes}
 use Rattle.access.specs.Held.{heldOf, toEnd}
 use Rattle.access.specs.Open.{Question, isAllow, opensBy, opens, mayOpenOf}
 use Rattle.access.specs.Said.{asking, holding, ordinaryOf}
-use Rattle.access.specs.Inner.Decide.{heldFault, toldBy}
+use Rattle.access.specs.Inner.Decide.{lentFault, toldBy}
 use Rattle.access.proofs.Holds.{held-sids, held-built, built-whole}
 use Rattle.access.proofs.Opens.{wants-generic, without-list, unread, read, fine-fault}
 use Rattle.access.proofs.Theorems.{yes-exactly, more-held, placeholders-unseen}
@@ -40,13 +40,13 @@ pub answer-more : (q : Question) (h : List ℕ) → toEnd h ≡ true → length 
 unfolding opens
 answer-more q h e n more only y =
     let m = yes-exactly q .0 y in
-    yes-exactly (holding q h) .1 (record { specific = m .specific; reads = m .reads; to-end = e; few = n; opened = still (q .list) only (m .opened) })
+    yes-exactly (holding q h) .1 (record { specific = m .specific; reads = m .reads; to-end = e; few = n; made = m .made; opened = still (q .list) only (m .opened) })
   where
     still : (list : MaybeList)
         → EveryEntry (λ x. among (sidOf x) (heldOf h) ≡ true → among (sidOf x) (heldOf (q .held)) ≡ false → isAllow (kindOf x) ≡ true) list
         → opens q list ≡ true → opens (holding q h) list ≡ true
     still none f o = o
-    still (some s) f o = more-held (q .type) (heldOf (q .held)) (heldOf h) (q .wanted) (entriesOf s) more f o
+    still (some s) f o = more-held (q .type) (q .table) (heldOf (q .held)) (heldOf h) (q .wanted) (entriesOf s) more f o
 
 -- ---- spare bytes
 
@@ -68,7 +68,7 @@ spare-unopened q s z e =
         → mayOpenOf (asking q (some (bare access s))) ≡ mayOpenOf q
     by g (Read l n x) c d =
         read (asking q (some (bare access s))) g (bare access s) refl x n x (d ∙ ap bareReading c)
-        ∙ ap (λ (es : List (List ℕ)). toldBy (heldFault (q .held)) (opensBy (q .type) (heldOf (q .held)) (q .wanted) es)) (bare-entries access s z)
+        ∙ ap (λ (es : List (List ℕ)). toldBy (lentFault (q .held) (q .table)) (opensBy (q .type) (q .table) (heldOf (q .held)) (q .wanted) es)) (bare-entries access s z)
         ∙ sym (read q g s e l n x c)
     by g (Unread k at) c d = unread (asking q (some (bare access s))) g (bare access s) refl k at (d ∙ ap bareReading c) ∙ sym (unread q g s e k at c)
 
@@ -104,11 +104,11 @@ module _ (q : Question) (fine : toEnd (q .held) ≡ true) (few : length (heldOf 
   abbrev pub without-them : Question
   without-them = holding q (flatten ordinary)
 
-  no-fault-either : heldFault (flatten ordinary) ≡ heldFault (q .held)
+  no-fault-either : lentFault (flatten ordinary) (q .table) ≡ lentFault (q .held) (q .table)
   no-fault-either =
       let h = held-built ordinary are-sids in
-      fine-fault (flatten ordinary) (built-whole ordinary are-sids) (omega (arith, ap length h, ordinary-few (heldOf (q .held))))
-      ∙ sym (fine-fault (q .held) fine few)
+      fine-fault (flatten ordinary) (q .table) (built-whole ordinary are-sids) (omega (arith, ap length h, ordinary-few (heldOf (q .held))))
+      ∙ sym (fine-fault (q .held) (q .table) fine few)
 
   -- where no entry names a placeholder, none that is held decides: without them the answer is the same
   pub ordinary-answer : EveryEntry (λ e. placeholderOf (sidOf e) ≡ 0) (q .list) → mayOpenOf without-them ≡ mayOpenOf q
@@ -124,6 +124,6 @@ module _ (q : Question) (fine : toEnd (q .held) ≡ true) (few : length (heldOf 
           by (Unread k at) c = unread without-them g s e k at c ∙ sym (unread q g s e k at c)
           by (Read l n x) c =
               read without-them g s e l n x c
-              ∙ ap₂ (λ (f : ℕ) (ss : List (List ℕ)). toldBy f (opensBy (q .type) ss (q .wanted) (entriesOf s))) no-fault-either (held-built ordinary are-sids)
-              ∙ ap (toldBy (heldFault (q .held))) (sym (placeholders-unseen (q .type) (heldOf (q .held)) (q .wanted) (entriesOf s) a))
+              ∙ ap₂ (λ (f : ℕ) (ss : List (List ℕ)). toldBy f (opensBy (q .type) (q .table) ss (q .wanted) (entriesOf s))) no-fault-either (held-built ordinary are-sids)
+              ∙ ap (toldBy (lentFault (q .held) (q .table))) (sym (placeholders-unseen (q .type) (q .table) (heldOf (q .held)) (q .wanted) (entriesOf s) a))
               ∙ sym (read q g s e l n x c)

@@ -4,7 +4,7 @@ use mathlib.Core.Bool.{Bool, true, false, _&&_}
 use Prim.Native.Nat.{ℕ, zero, suc, _^_, _<_}
 use native.Mathlib.Decide.{ℕ-discrete}
 use native.Mathlib.Omega.{arith}
-use Rattle.list.proofs.Tests.{both-true}
+use Rattle.octets.proofs.Tests.{both-true}
 use Rattle.access.specs.Open.{eachBit}
 
 -- two tests are equal where each holds if the other does

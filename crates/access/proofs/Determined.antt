@@ -6,7 +6,9 @@ use contract.Monad.{fact, factI, fact-use}
 use borrow.Fn.World.{World, ArgsD, ResD}
 use denote.Ref.{now}
 use denote.Triple.Clauses.{Ended, Clauses, AtExit}
-use Rattle.list.proofs.Determinacy.{Determines, OneResult}
+use Rattle.octets.proofs.Determinacy.{Determines, OneResult}
+use Rattle.access.proofs.may_open_with.Kinds as may-open-with
+use Rattle.access.proofs.may_open_with.Reads as may-open-with-reads
 use Rattle.access.proofs.may_open.Kinds as may-open
 use Rattle.access.proofs.may_open.Reads as may-open-reads
 use Rattle.access.proofs.step_from.Kinds as step-from
@@ -36,6 +38,9 @@ both-facts : (w : World) (φ ψ χ : Type 0) → (φ → ψ → χ) → ent (w .
 both-facts w φ ψ χ f =
     fact-use (w .𝓤) φ (fst∗ (w .𝓤) (fact (w .𝓤) φ) (fact (w .𝓤) ψ))
     (λ p. fact-use (w .𝓤) ψ (snd∗ (w .𝓤) (fact (w .𝓤) φ) (fact (w .𝓤) ψ)) (λ q. factI (w .𝓤) χ _ (f p q)))
+
+pub may-open-with-determined : OneResult 3 may-open-with.ps may-open-with.r may-open-with-reads.Learnt
+may-open-with-determined κs a x y s t p q = p ∙ sym q
 
 pub may-open-determined : OneResult 2 may-open.ps may-open.r may-open-reads.Learnt
 may-open-determined κs a x y s t p q = p ∙ sym q

@@ -8,12 +8,13 @@ use native.Mathlib.Omega.{arith}
 use lib.ListN.{length, getD, take, drop, length-append, length-drop, drop-of-length-le, take-append-drop}
 use lib.Seq.{getD-take, getD-drop, drop-drop, drop-at, take-at, length-take-le}
 use borrow.Author.Tests.{eq-eqb, ne-eqb, le-leb, lt-leb, lt-ltb, le-ltb, eqb-true}
-use Rattle.list.specs.Order.{need}
-use Rattle.list.specs.Bytes.{sameBytes, among}
+use Rattle.octets.specs.Order.{need}
+use Rattle.octets.specs.Bytes.{sameBytes, among}
 use Rattle.list.specs.Identity.{isSid, wholeSid}
 use Rattle.list.specs.Good.{Every}
-use Rattle.list.proofs.Places.{split}
-use Rattle.list.proofs.Sids.{same-no, whole-short, whole-sid, whole-says, whole-joined, one-sid, sid-length}
+use Rattle.octets.proofs.Places.{split}
+use Rattle.octets.proofs.Same.{same-no}
+use Rattle.list.proofs.Sids.{whole-short, whole-sid, whole-says, whole-joined, one-sid, sid-length}
 use Rattle.access.specs.Held.{sidsIn, heldOf, toEnd}
 use Rattle.access.specs.Inner.Decide.{heldFault, lastOf}
 

@@ -9,6 +9,7 @@ pub mod Decides
 pub mod Opens
 pub mod Small
 pub mod Theorems
+pub mod Conditions
 pub mod Answers
 pub mod Worked
 pub mod Determined

@@ -9,7 +9,7 @@ use borrow.Author.Tests.{eq-eqb, ne-eqb, le-leb, lt-leb}
 use Rattle.list.specs.Entry.{access, sizeOf, fieldsOf}
 use Rattle.list.specs.List.{revOf, cut}
 use Rattle.list.specs.declared.entries.Entry.{Entry}
-use Rattle.list.proofs.Places.{split}
+use Rattle.octets.proofs.Places.{split}
 use Rattle.list.proofs.Remade.{bounds}
 use Rattle.access.specs.declared.steps.Found.{Found}
 use Rattle.access.specs.declared.steps.Found.the-variants.{At, End}

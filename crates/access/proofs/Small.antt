@@ -6,7 +6,7 @@ use Prim.Native.Nat.{ℕ, _+_, _≤_}
 use native.Mathlib.Omega.{arith}
 use lib.ListN.{length, length-append}
 use lib.Dec.{leb}
-use Rattle.list.specs.Bytes.{Bytes}
+use Rattle.octets.specs.Bytes.{Bytes}
 use Rattle.list.specs.Entry.{access, sizeOf, fieldsOf}
 use Rattle.list.specs.List.{revOf, entriesOf, checkOf}
 use Rattle.list.specs.Good.{Whole, Every}

@@ -31,7 +31,7 @@ firstFrom place [] = End
 firstFrom place (At at e next ∷ r) = cond (leb place at) (At at e next) (firstFrom place r)
 firstFrom place (End ∷ r) = firstFrom place r
 
--- the list is tested as the reader tests it (1 to 5); then the entry meant is that one
+-- the list is tested as the reader tests it (1 to 5, 15); then the entry meant is that one
 unfoldable pub onWalk : Reading → Found → Pointed
 onWalk (Read len n end) found = Done found
 onWalk (Unread k at) found = Refused k at

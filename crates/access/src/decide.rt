@@ -2,15 +2,16 @@
 ghost use mathlib.Core.Path.{_≡_};
 ghost use mathlib.Core.Bool.{true};
 ghost use lib.ListN.{drop};
-ghost use Rattle.list.specs.Bytes.{has as Bytes·has};
-ghost use Rattle.list.specs.Entry.{access, kindOf, wordOf};
+ghost use Rattle.octets.specs.Bytes.{has as Bytes·has};
+ghost use Rattle.list.specs.Entry.{access, kindOf, sizeOf, wordOf, sidEnd};
 ghost use Rattle.list.specs.Look.{lookOf};
 ghost use Rattle.list.specs.List.{cut};
 ghost use Rattle.list.specs.Good.{Passes};
 ghost use Rattle.access.specs.Held.{heldOf, toEnd};
-ghost use Rattle.access.specs.Open.{typeCounts, isAllow};
+ghost use Rattle.access.specs.Open.{typeCounts, isAllow, saidCounts, conditionCounts};
 ghost use Rattle.access.specs.Inner.Decide.{SidIn, weighs as Decide·weighs, leftAfter, turnWith, decided};
 use crate::held::names;
+use condition::Truth;
 use list::Look;
 
 // What an entry leaves: the bits still to decide; or a bit is denied.
@@ -31,7 +32,10 @@ fn is_allow(kind: u8) -> bool
     if kind == 0 {
         return true;
     }
-    kind == 5
+    if kind == 5 {
+        return true;
+    }
+    kind == 9
 }
 
 // An object entry counts only without an ObjectType or with the given one.
@@ -48,10 +52,32 @@ fn type_counts(t: &[u8], kind: u8, word: u32, guid: [u8; 16]) -> bool
     list::same_guid(list::guid_at(t, 12), guid)
 }
 
+// A true condition applies, a false one passes the entry over; unknown grants nothing in an allow, and denies in a deny.
+fn said_counts(said: Truth, kind: u8) -> bool
+    ensures { λ r. ⌜ r ≡ saidCounts said (isAllow kind) ⌝ }
+{
+    match said {
+        Truth::False => false,
+        Truth::True => true,
+        Truth::Unknown => !is_allow(kind),
+    }
+}
+
+// A conditional entry, whose SID ends at `end`, counts by what its expression says.
+fn condition_counts(t: &[u8], kind: u8, end: usize, size: usize, table: &[u8]) -> bool
+    requires { ⌜ (kind ≡ kindOf (now t)) × (end ≡ sidEnd (now t)) × (size ≡ sizeOf (now t)) × SidIn (now t) ⌝ }
+    ensures { λ r. ⌜ r ≡ conditionCounts (now (table .entry)) (now (t .entry)) ⌝ }
+{
+    if !list::is_conditional(kind) {
+        return true;
+    }
+    said_counts(condition::said(&t[end..size], table), kind)
+}
+
 // Whether the entry that `t` begins with counts and has a bit that isn't decided yet.
-fn weighs(t: &[u8], look: Look, guid: [u8; 16], held: &[u8], left: u32) -> bool
+fn weighs(t: &[u8], look: Look, guid: [u8; 16], held: &[u8], left: u32, table: &[u8]) -> bool
     requires { ⌜ (look ≡ lookOf (now t)) × SidIn (now t) × (toEnd (now held) ≡ true) ⌝ }
-    ensures { λ r. ⌜ r ≡ Decide·weighs guid (heldOf (now (held .entry))) left (now (t .entry)) ⌝ }
+    ensures { λ r. ⌜ r ≡ Decide·weighs guid (now (table .entry)) (heldOf (now (held .entry))) left (now (t .entry)) ⌝ }
 {
     if !has(look.mask, left) {
         return false;
@@ -64,15 +90,18 @@ fn weighs(t: &[u8], look: Look, guid: [u8; 16], held: &[u8], left: u32) -> bool
     }
     let sid = look.sid;
     let end = sid + list::sid_len_in(t, sid);
-    names(&t[sid..end], held)
+    if !names(&t[sid..end], held) {
+        return false;
+    }
+    condition_counts(t, look.kind, end, look.size, table)
 }
 
 // What the entry that `t` begins with leaves to decide.
-fn turn_past(t: &[u8], look: Look, guid: [u8; 16], held: &[u8], left: u32) -> Turn
+fn turn_past(t: &[u8], look: Look, guid: [u8; 16], held: &[u8], left: u32, table: &[u8]) -> Turn
     requires { ⌜ (look ≡ lookOf (now t)) × SidIn (now t) × (toEnd (now held) ≡ true) ⌝ }
-    ensures { λ r. ⌜ r ≡ turnWith (leftAfter guid (heldOf (now (held .entry))) left (now (t .entry))) ⌝ }
+    ensures { λ r. ⌜ r ≡ turnWith (leftAfter guid (now (table .entry)) (heldOf (now (held .entry))) left (now (t .entry))) ⌝ }
 {
-    if !weighs(t, look, guid, held, left) {
+    if !weighs(t, look, guid, held, left, table) {
         return Turn::On(left);
     }
     if is_allow(look.kind) {
@@ -89,9 +118,10 @@ pub(crate) fn decide(
     guid: [u8; 16],
     held: &[u8],
     wanted: u32,
+    table: &[u8],
 ) -> bool
     requires { ⌜ Passes access rev n (drop 8 (now list)) × (toEnd (now held) ≡ true) ⌝ }
-    ensures { λ r. ⌜ r ≡ decided guid (heldOf (now (held .entry))) wanted (cut n (drop 8 (now (list .entry)))) ⌝ }
+    ensures { λ r. ⌜ r ≡ decided guid (now (table .entry)) (heldOf (now (held .entry))) wanted (cut n (drop 8 (now (list .entry)))) ⌝ }
 {
     let mut left = wanted;
     let mut at: usize = 8;
@@ -101,7 +131,7 @@ pub(crate) fn decide(
             return false;
         }
         let look = list::look_at(&list[at..]);
-        match turn_past(&list[at..], look, guid, held, left) {
+        match turn_past(&list[at..], look, guid, held, left, table) {
             Turn::Denied => {
                 return false;
             }

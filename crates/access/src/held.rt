@@ -3,11 +3,11 @@ ghost use mathlib.Core.Path.{_≡_};
 ghost use mathlib.Core.Bool.{true};
 ghost use Prim.Native.Nat.{_+_, _-_, _≤_};
 ghost use lib.ListN.{length, take, drop};
-ghost use Rattle.list.specs.Bytes.{sameBytes, among};
+ghost use Rattle.octets.specs.Bytes.{sameBytes, among};
 ghost use Rattle.access.specs.Held.{heldOf, toEnd};
 ghost use Rattle.access.specs.Inner.Decide.{heldFault, lastOf};
-use list::same_bytes;
 use list::sid_in;
+use octets::same_bytes;
 
 const MOST_HELD: usize = 32;
 

@@ -1,10 +1,11 @@
 // Who may open an object, and a list's entries stepped through where they lie.
 ghost use mathlib.Core.Path.{_≡_};
+ghost use mathlib.Core.List.{[]};
 ghost use Prim.Native.Nat.{ℕ, suc, _+_, _≤_};
 ghost use lib.ListN.{length};
 ghost use Rattle.access.specs.Open.{mayOpenOf, questionBy};
 ghost use Rattle.access.specs.Walk.{pointedOf};
-ghost use Rattle.access.specs.Inner.Decide.{toldBy};
+ghost use Rattle.access.specs.Inner.Decide.{lentFault, toldBy};
 ghost use Rattle.access.specs.Inner.Seek.{seekFrom};
 
 mod decide;
@@ -51,15 +52,34 @@ fn told(fault: u8, yes: bool) -> Access
     if yes { Access::Yes } else { Access::No }
 }
 
-// Whether a person who holds these SIDs, laid end to end, may open an object of that type with that list, or with none, for what is wanted.
-pub fn may_open(given: bool, list: &[u8], guid: [u8; 16], held: &[u8], wanted: u32) -> Access
-    ensures { λ r. ⌜ r ≡ mayOpenOf (questionBy given (now (list .entry)) guid (now (held .entry)) wanted) ⌝ }
+// The number of a fault of the held bytes, or of the table; 0 where there is none.
+fn lent_fault(held: &[u8], table: &[u8]) -> u8
+    ensures { λ r. ⌜ r ≡ lentFault (now (held .entry)) (now (table .entry)) ⌝ }
+{
+    let fault = held_fault(held);
+    if fault != 0 {
+        return fault;
+    }
+    if condition::table_ok(table) { 0 } else { 23 }
+}
+
+// Whether a person who holds these SIDs, laid end to end, may open an object of that type with that list, or with none, for what is wanted; what
+// conditions say is by the table of names.
+pub fn may_open_with(
+    given: bool,
+    list: &[u8],
+    guid: [u8; 16],
+    held: &[u8],
+    wanted: u32,
+    table: &[u8],
+) -> Access
+    ensures { λ r. ⌜ r ≡ mayOpenOf (questionBy given (now (list .entry)) guid (now (held .entry)) wanted (now (table .entry))) ⌝ }
 {
     if wanted & 0xF0000000 != 0 {
         return Access::Refused { number: 14, at: 0 };
     }
     if !given {
-        return told(held_fault(held), true);
+        return told(lent_fault(held, table), true);
     }
     match list::check(list) {
         Reading::Refused { number, at } => Access::Refused { number, at },
@@ -68,13 +88,23 @@ pub fn may_open(given: bool, list: &[u8], guid: [u8; 16], held: &[u8], wanted: u
             count,
             end: _,
         } => {
-            let fault = held_fault(held);
+            let fault = lent_fault(held, table);
             if fault != 0 {
                 return told(fault, false);
             }
-            told(0, decide(list, list[0], count as usize, guid, held, wanted))
+            told(
+                0,
+                decide(list, list[0], count as usize, guid, held, wanted, table),
+            )
         }
     }
+}
+
+// The same with no table: no name has a number.
+pub fn may_open(given: bool, list: &[u8], guid: [u8; 16], held: &[u8], wanted: u32) -> Access
+    ensures { λ r. ⌜ r ≡ mayOpenOf (questionBy given (now (list .entry)) guid (now (held .entry)) wanted []) ⌝ }
+{
+    may_open_with(given, list, guid, held, wanted, octets::part_of(held, 0, 0))
 }
 
 // Where the first entry at or after a place begins, in a list that is cut where its entries end; the end where there is none.
@@ -103,7 +133,7 @@ pub fn step_from(list: &[u8], place: usize) -> Pointed
             count: _,
             end,
         } => {
-            let entries = list::part_of(list, 0, end as usize);
+            let entries = octets::part_of(list, 0, end as usize);
             Pointed::Done(step_at(entries, seek(entries, place)))
         }
     }

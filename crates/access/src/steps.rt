@@ -55,7 +55,7 @@ pub fn walked(list: &[u8]) -> &[u8]
             length: _,
             count: _,
             end,
-        } => list::part_of(list, 0, end as usize),
-        Reading::Refused { number: _, at: _ } => list::part_of(list, 0, 0),
+        } => octets::part_of(list, 0, end as usize),
+        Reading::Refused { number: _, at: _ } => octets::part_of(list, 0, 0),
     }
 }

@@ -1,7 +1,7 @@
 -- Each exported call's contract allows one result only, and one content of what it is lent to change.
 use mathlib.Core.Path.{_≡_, sym, _∙_}
 use denote.Ref.{now}
-use Rattle.list.proofs.Determinacy.{Determines, OneResult}
+use Rattle.octets.proofs.Determinacy.{Determines, OneResult}
 use Rattle.capi.proofs.pt_identity.Kinds as pt-identity
 use Rattle.capi.proofs.pt_identity.Reads as pt-identity-reads
 use Rattle.capi.proofs.pt_compute.Kinds as pt-compute
@@ -32,6 +32,10 @@ use Rattle.capi.proofs.pt_play.Kinds as pt-play
 use Rattle.capi.proofs.pt_play.Reads as pt-play-reads
 use Rattle.capi.proofs.pt_step.Kinds as pt-step
 use Rattle.capi.proofs.pt_step.Reads as pt-step-reads
+use Rattle.capi.proofs.pt_may_open_with.Kinds as pt-may-open-with
+use Rattle.capi.proofs.pt_may_open_with.Reads as pt-may-open-with-reads
+use Rattle.capi.proofs.pt_evaluate.Kinds as pt-evaluate
+use Rattle.capi.proofs.pt_evaluate.Reads as pt-evaluate-reads
 use Rattle.capi.proofs.pt_may_open.Kinds as pt-may-open
 use Rattle.capi.proofs.pt_may_open.Reads as pt-may-open-reads
 use Rattle.capi.proofs.pt_read.Kinds as pt-read
@@ -104,5 +108,11 @@ pub pt-step-determined : Determines 3 pt-step.ps pt-step.r (λ κs x y s t. (now
 pt-step-determined κs a x y s t p q = (p .1 ∙ sym (q .1), p .0 ∙ sym (q .0))
 
 -- the answer afterwards
+pub pt-may-open-with-determined : Determines 5 pt-may-open-with.ps pt-may-open-with.r (λ κs x y s t. now (s .1 .1 .1 .1 .1 .1 .0) ≡ now (t .1 .1 .1 .1 .1 .1 .0)) pt-may-open-with-reads.Learnt
+pt-may-open-with-determined κs a x y s t p q = p ∙ sym q
+
+pub pt-evaluate-determined : Determines 3 pt-evaluate.ps pt-evaluate.r (λ κs x y s t. now (s .1 .1 .0) ≡ now (t .1 .1 .0)) pt-evaluate-reads.Learnt
+pt-evaluate-determined κs a x y s t p q = p ∙ sym q
+
 pub pt-may-open-determined : Determines 4 pt-may-open.ps pt-may-open.r (λ κs x y s t. now (s .1 .1 .1 .1 .1 .0) ≡ now (t .1 .1 .1 .1 .1 .0)) pt-may-open-reads.Learnt
 pt-may-open-determined κs a x y s t p q = p ∙ sym q

@@ -6,13 +6,14 @@ use mathlib.Core.Logic.{inl, inr}
 use mathlib.Core.Option.{none, some}
 use Prim.Native.Nat.{ℕ, _^_, _≤_, _<_}
 use lib.ListN.{length, set, drop, replicate}
-use Rattle.list.specs.Bytes.{has, among, sameBytes, guidAt}
+use Rattle.octets.specs.Bytes.{has, among, sameBytes, guidAt}
 use Rattle.list.specs.Identity.{placeholderOf, wholeSid}
-use Rattle.list.specs.Entry.{access, objectKind, kindOf, maskOf, wordOf, sidOf}
+use Rattle.condition.specs.Table.{tableOk, wellMade}
+use Rattle.list.specs.Entry.{access, objectKind, kindOf, maskOf, wordOf, sidOf, conditionalKind}
 use Rattle.list.specs.List.{MaybeList, entriesOf}
 use Rattle.list.specs.Good.{Every}
-use Rattle.list.proofs.Bits.{has-common}
-use Rattle.list.proofs.Tests.{off}
+use Rattle.octets.proofs.Bits.{has-common}
+use Rattle.octets.proofs.Tests.{off}
 use Rattle.inherit.specs.Asked.{Asked, givenIn}
 use Rattle.inherit.specs.Last.{inPlace, resolved}
 use Rattle.inherit.specs.Branch.{resultOf}
@@ -25,10 +26,11 @@ use Rattle.inherit.proofs.Mended.{copied-is}
 use Rattle.inherit.proofs.Worked.{mapping, system}
 use Rattle.tree.proofs.Worked.{bytes-open, entries-open, lists-open, copies-open, last-open, compute-open}
 use Rattle.access.specs.Held.{sidsIn, heldOf, toEnd}
-use Rattle.access.specs.Open.{Question, typeCounts, entryCounts, isAllow, granted, eachBit, opensBy, opens, onRead, readFirst, mayOpenOf}
+use Rattle.access.specs.Open.{Question, typeCounts, conditionCounts, applies, entryCounts, isAllow, granted, eachBit, opensBy, opens, onRead, readFirst, mayOpenOf}
 use Rattle.access.specs.declared.Access.{Access}
 use Rattle.access.specs.declared.Access.the-variants.{Yes, No}
 use Rattle.access.proofs.Bitwise.{each-at, both-hold}
+use Rattle.access.proofs.Weighs.{unconditional}
 use Rattle.access.proofs.Theorems.{yes-exactly, allowed-opens}
 use Rattle.access.proofs.Answers.{EveryEntry, without-them, ordinary-answer}
 
@@ -72,13 +74,15 @@ untyped-counts type e h = by (objectKind (kindOf e))
     by true = rw h
     by false = refl
 
--- under rule 2 an allow entry without an ObjectType that granted 10000000 to a SID that is held, inherited, own or of the default list, and not IO, lets
--- every bit of the "all" mapping through that isn't generic, where no entry before its copy in the computed list denies a SID that is held
+-- under rule 2 an allow entry without an ObjectType that granted 10000000 to a SID that is held, inherited, own or of the default list, and not IO, whose
+-- condition, if it has one, is true, lets every bit of the "all" mapping through that isn't generic, where no entry before its copy in the computed list
+-- denies a SID that is held
 module _ (a : Asked) (room : ℕ) (r : a .rule ≡ 2) (h : computeOf a room .present ≡ 1) (e : List ℕ) (flags : ℕ) (grants : GrantsAll a e flags) (q : Question)
     (asked : q .list ≡ some (bytesFor (resultOf access a))) (fine : toEnd (q .held) ≡ true) (few : length (heldOf (q .held)) ≤ 32)
     (names : among (inPlace (placeholderOf (sidOf e)) (sidOf e) (a .owner) (a .group)) (heldOf (q .held)) ≡ true)
     (s : Stands (resolved (givenIn a) (set e 1 flags)) (entriesOf (bytesFor (resultOf access a))))
-    (denies : Every (λ x. among (sidOf x) (heldOf (q .held)) ≡ true → isAllow (kindOf x) ≡ true) (s .before)) where
+    (denies : Every (λ x. among (sidOf x) (heldOf (q .held)) ≡ true → isAllow (kindOf x) ≡ true) (s .before))
+    (made : tableOk (q .table) ≡ true) (said : conditionCounts (q .table) (resolved (givenIn a) (set e 1 flags)) ≡ true) where
   abbrev sids : List (List ℕ)
   sids = heldOf (q .held)
 
@@ -88,11 +92,11 @@ module _ (a : Asked) (room : ℕ) (r : a .rule ≡ 2) (h : computeOf a room .pre
   is : Copy (givenIn a) e flags copy
   is = copied-is a room r h e flags (grants .copied)
 
-  counts : entryCounts (q .type) sids copy ≡ true
-  unfolding entryCounts
+  counts : entryCounts (q .type) (q .table) sids copy ≡ true
+  unfolding entryCounts applies
   counts =
       both-hold (ap not (ap (has 0x08) (is .flags-are) ∙ grants .here))
-      (both-hold (ap (λ (x : List ℕ). among x sids) (is .sid) ∙ names) (untyped-counts (q .type) copy (ap (has 1) (is .word) ∙ grants .untyped)))
+      (both-hold (ap (λ (x : List ℕ). among x sids) (is .sid) ∙ names) (both-hold (untyped-counts (q .type) copy (ap (has 1) (is .word) ∙ grants .untyped)) said))
 
   pub full-control : has 0xF0000000 (q .wanted) ≡ false → ((k : ℕ) → k < 32 → has (2 ^ k) (q .wanted) ≡ true → has (2 ^ k) (a .mapping .all) ≡ true)
       → mayOpenOf q ≡ Yes
@@ -100,16 +104,23 @@ module _ (a : Asked) (room : ℕ) (r : a .rule ≡ 2) (h : computeOf a room .pre
   full-control specific part =
       let bits : (k : ℕ) → k < 32 → has (2 ^ k) (q .wanted) ≡ true → has (2 ^ k) (maskOf copy) ≡ true =
       λ k l w. ap (has (2 ^ k)) (is .mask) ∙ mended-has (a .mapping) (maskOf e) k (grants .everything) (part k l w) (specific-bit (q .wanted) k specific l w) in
-      let o : opensBy (q .type) sids (q .wanted) (entriesOf (bytesFor (resultOf access a))) ≡ true =
-      rw (s .is) (allowed-opens (q .type) sids (q .wanted) (s .before) (s .after) copy denies counts (ap isAllow (is .kind) ∙ grants .allows) bits) in
+      let o : opensBy (q .type) (q .table) sids (q .wanted) (entriesOf (bytesFor (resultOf access a))) ≡ true =
+      rw (s .is) (allowed-opens (q .type) (q .table) sids (q .wanted) (s .before) (s .after) copy denies counts (ap isAllow (is .kind) ∙ grants .allows) bits) in
       yes-exactly q .1
       (record {
         specific = specific;
         reads = rw asked (record { len = _; count = _; end = _; done = computes a room h .done });
         to-end = fine;
         few = few;
+        made = made;
         opened = rw asked o;
       })
+
+-- an entry that has no condition is copied without one
+pub unconditional-said : (a : Asked) (room : ℕ) (r : a .rule ≡ 2) (h : computeOf a room .present ≡ 1) (e : List ℕ) (flags : ℕ) (c : Copied a e flags) (table : List ℕ)
+    → conditionalKind (kindOf e) ≡ false → conditionCounts table (resolved (givenIn a) (set e 1 flags)) ≡ true
+unconditional-said a room r h e flags c table k =
+    unconditional table (resolved (givenIn a) (set e 1 flags)) (ap conditionalKind (copied-is a room r h e flags c .kind) ∙ k)
 
 -- ---- the ticket's folder, computed: it grants S-1-5-18 10000000, for everything below too
 
@@ -167,11 +178,11 @@ default-grants = folder-grants (by-default 2) 0x03 (inr (inr (record { stands = 
 -- what the one who holds it may do: read, all of the "all" mapping, and what isn't in it
 abbrev may : Asked → List Access
 may a =
-    map (λ wanted. mayOpenOf (record { list = some (bytesFor (resultOf access a)); type = replicate 16 0; held = system; wanted = wanted }))
+    map (λ wanted. mayOpenOf (record { list = some (bytesFor (resultOf access a)); type = replicate 16 0; held = system; wanted = wanted; table = [] }))
     (0x00000001 ∷ 0x001F01FF ∷ 0x00200000 ∷ [])
 
 -- under rule 2 the first two; under rule 1 nothing, as under rule 2 while the bit stood for nothing
 pub full-worked : (map may (plan 2 ∷ itself 2 ∷ by-default 2 ∷ []) ≡ replicate 3 (Yes ∷ Yes ∷ No ∷ []))
     × (map may (plan 1 ∷ itself 1 ∷ by-default 1 ∷ []) ≡ replicate 3 (No ∷ No ∷ No ∷ []))
-unfolding bytes-open entries-open lists-open copies-open last-open compute-open mayOpenOf readFirst onRead opens opensBy eachBit granted entryCounts typeCounts isAllow heldOf sidsIn wholeSid
+unfolding bytes-open entries-open lists-open copies-open last-open compute-open mayOpenOf readFirst onRead opens opensBy eachBit granted entryCounts applies typeCounts conditionCounts isAllow heldOf sidsIn wholeSid wellMade
 full-worked = (refl, refl)

@@ -6,8 +6,12 @@ use mathlib.Core.Bool.{Bool, not}
 use lib.ListN.{length, getD, replicate}
 use lib.Dec.{eqb}
 use Rattle.list.specs.List.{lent}
-use Rattle.list.specs.Bytes.{has}
-use Rattle.list.specs.Answer.{Values}
+use Rattle.octets.specs.Bytes.{has}
+use Rattle.list.specs.Answer.{Values, done, refused}
+use Rattle.condition.specs.declared.truths.Truth.{Truth}
+use Rattle.condition.specs.declared.truths.Truth.the-variants.{False, True, Unknown}
+use Rattle.condition.specs.declared.Evaluated.{Evaluated}
+use Rattle.condition.specs.declared.Evaluated.the-variants.{Done as Said, Refused as Unsaid}
 use Rattle.inherit.specs.Asked.{Asked}
 use Rattle.inherit.specs.Compute.{computeOf, outOf}
 use Rattle.inherit.specs.declared.Settings.{Settings}
@@ -21,6 +25,17 @@ use Rattle.access.specs.declared.Pointed.the-variants.{Done, Refused}
 -- the values of an answer in their places (RULES 8.1)
 abbrev pub placesOf : Values → List ℕ
 placesOf v = v .number ∷ v .list ∷ v .offset ∷ v .length ∷ v .present ∷ v .count ∷ v .control ∷ v .end ∷ []
+
+-- what an expression says, as a number: 0 false, 1 true, 2 unknown
+unfoldable pub truthNumber : Truth → ℕ
+truthNumber False = 0
+truthNumber True = 1
+truthNumber Unknown = 2
+
+-- the numbers and values (RULES 4.2, 8.1) of each case of the evaluator's answer: done, with that number in the place of the length
+abbrev pub evaluatedValues : Evaluated → Values
+evaluatedValues (Said v) = done (truthNumber v) 0 0 0
+evaluatedValues (Unsaid k) = refused k 0 0
 
 -- the settings of a computation: 1 parent present, 2 creator present, 4 default present, 8 container, 16 auto inherit, 32 default descriptor, 64 protected
 abbrev pub settingsOf : ℕ → Settings

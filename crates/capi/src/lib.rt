@@ -1,7 +1,9 @@
 // The C library (include/pipeteasel.h): thin calls, one for each public call of the layers, and nothing else.
 ghost use mathlib.Core.Path.{_≡_};
+ghost use mathlib.Core.List.{[]};
 ghost use lib.ListN.{length};
-ghost use Rattle.list.specs.Bytes.{has as Given·has};
+ghost use Rattle.octets.specs.Bytes.{has as Given·has};
+ghost use Rattle.condition.specs.Meaning.{evaluateOf};
 ghost use Rattle.list.specs.Identity.{identityOf};
 ghost use Rattle.list.specs.Entry.{access};
 ghost use Rattle.list.specs.List.{readOf, rowBy, lent};
@@ -13,10 +15,12 @@ ghost use Rattle.tree.specs.Held.{yes};
 ghost use Rattle.tree.specs.Room.{roomOf};
 ghost use Rattle.tree.specs.Calls.{list as Edit·list, mark as Edit·mark, owners as Edit·owners, answerValues as Calls·valuesOf, objectFor, startTo, addTo, alterTo, undoTo, listTo, ownTo, dataTo, countsTo};
 ghost use Rattle.script.specs.Play.{playTo};
-ghost use Rattle.capi.specs.Places.{placesOf, settingsOf, mappingFrom, yesOf, newOf, Computes, foundPlaces, entryPlaces, Told32};
+ghost use Rattle.capi.specs.Places.{placesOf, truthNumber, evaluatedValues, settingsOf, mappingFrom, yesOf, newOf, Computes, foundPlaces, entryPlaces, Told32};
 use access::Access;
 use access::Found;
 use access::Pointed;
+use condition::Evaluated;
+use condition::Truth;
 use inherit::Computed;
 use inherit::Mapping;
 use inherit::Settings;
@@ -154,6 +158,17 @@ pub extern "C" fn pt_step(list: &[u8], place: u32, entry: &mut [u32; 8], answer:
     }
 }
 
+// What is told of a person who would open an object.
+fn put_access(answer: &mut [u32; 8], access: Access)
+    ensures { λ _. ⌜ now (answer .exit) ≡ placesOf (accessValues access) ⌝ }
+{
+    match access {
+        Access::Yes => put_values(answer, 0, 0, 0, 1, 0, 0, 0, 0),
+        Access::No => put_values(answer, 0, 0, 0, 0, 0, 0, 0, 0),
+        Access::Refused { number, at } => put_refused(answer, number, at),
+    }
+}
+
 // Whether a person may open an object: the SIDs held, laid end to end, and the wanted mask.
 #[no_mangle]
 pub extern "C" fn pt_may_open(
@@ -164,12 +179,52 @@ pub extern "C" fn pt_may_open(
     wanted: u32,
     answer: &mut [u32; 8],
 )
-    ensures { λ _. ⌜ now (answer .exit) ≡ placesOf (accessValues (mayOpenOf (questionBy (yesOf given) (now (list .entry)) (now (kind .entry)) (now (held .entry)) wanted))) ⌝ }
+    ensures { λ _. ⌜ now (answer .exit) ≡ placesOf (accessValues (mayOpenOf (questionBy (yesOf given) (now (list .entry)) (now (kind .entry)) (now (held .entry)) wanted []))) ⌝ }
 {
-    match access::may_open(given != 0, list, *kind, held, wanted) {
-        Access::Yes => put_values(answer, 0, 0, 0, 1, 0, 0, 0, 0),
-        Access::No => put_values(answer, 0, 0, 0, 0, 0, 0, 0, 0),
-        Access::Refused { number, at } => put_refused(answer, number, at),
+    put_access(
+        answer,
+        access::may_open(given != 0, list, *kind, held, wanted),
+    );
+}
+
+// The same, with a table of the names that conditions may ask for.
+#[no_mangle]
+pub extern "C" fn pt_may_open_with(
+    given: u32,
+    list: &[u8],
+    kind: &[u8; 16],
+    held: &[u8],
+    wanted: u32,
+    table: &[u8],
+    answer: &mut [u32; 8],
+)
+    ensures { λ _. ⌜ now (answer .exit) ≡ placesOf (accessValues (mayOpenOf (questionBy (yesOf given) (now (list .entry)) (now (kind .entry)) (now (held .entry)) wanted (now (table .entry))))) ⌝ }
+{
+    put_access(
+        answer,
+        access::may_open_with(given != 0, list, *kind, held, wanted, table),
+    );
+}
+
+// What an expression says: 0 false, 1 true, 2 unknown.
+fn truth_number(truth: Truth) -> u32
+    ensures { λ r. ⌜ r ≡ truthNumber truth ⌝ }
+{
+    match truth {
+        Truth::False => 0,
+        Truth::True => 1,
+        Truth::Unknown => 2,
+    }
+}
+
+// What a conditional expression in its stored form says under a table of names.
+#[no_mangle]
+pub extern "C" fn pt_evaluate(expression: &[u8], table: &[u8], answer: &mut [u32; 8])
+    ensures { λ _. ⌜ now (answer .exit) ≡ placesOf (evaluatedValues (evaluateOf (now (expression .entry)) (now (table .entry)))) ⌝ }
+{
+    match condition::evaluate(expression, table) {
+        Evaluated::Done(truth) => put_values(answer, 0, 0, 0, truth_number(truth), 0, 0, 0, 0),
+        Evaluated::Refused(number) => put_refused(answer, number, 0),
     }
 }
 

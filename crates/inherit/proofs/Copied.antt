@@ -7,12 +7,12 @@ use mathlib.Core.Option.{none, some}
 use Prim.Native.Nat.{ℕ}
 use native.Mathlib.Omega.{arith}
 use lib.ListN.{length, set, length-append}
-use Rattle.list.specs.Bytes.{has}
+use Rattle.octets.specs.Bytes.{has}
 use Rattle.list.specs.List.{MaybeList}
 use Rattle.list.specs.Entry.{access, flagsOf}
 use Rattle.list.specs.Good.{Whole, Every}
-use Rattle.list.proofs.Bits.{has-common}
-use Rattle.list.proofs.Tests.{both-true}
+use Rattle.octets.proofs.Bits.{has-common}
+use Rattle.octets.proofs.Tests.{both-true}
 use Rattle.list.proofs.Revisions.{whole-four}
 use Rattle.inherit.specs.declared.branch.Plan.{Plan}
 use Rattle.inherit.specs.declared.copies.Pass.{Pass}

@@ -4,8 +4,8 @@ use mathlib.Core.Bool.{Bool, true, false}
 use native.Mathlib.Omega.{arith}
 use denote.Ref.{now}
 use Rattle.list.specs.Answer.{Values}
-use Rattle.list.proofs.Tests.{off}
-use Rattle.list.proofs.Determinacy.{Determines}
+use Rattle.octets.proofs.Tests.{off}
+use Rattle.octets.proofs.Determinacy.{Determines}
 use Rattle.inherit.specs.declared.Computed.{Computed}
 use Rattle.inherit.specs.declared.Computed.the-variants.{Present, Absent, Refused}
 use Rattle.inherit.specs.Compute.{computedValues, isRefusal, Tells}

@@ -7,7 +7,7 @@ use native.Mathlib.Nat.{not-suc-le-zero}
 use native.Mathlib.Omega.{arith}
 use lib.ListN.{length, set, take, drop, length-append}
 use lib.Dec.{eqb}
-use Rattle.list.specs.Bytes.{has, among}
+use Rattle.octets.specs.Bytes.{has, among}
 use Rattle.list.specs.Identity.{placeholderOf}
 use Rattle.list.specs.Entry.{access, objectKind, kindOf, flagsOf, sizeOf, wordOf, sidAt, sidOf}
 use Rattle.list.specs.List.{cut}

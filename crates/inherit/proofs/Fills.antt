@@ -6,7 +6,7 @@ use Prim.Native.Nat.{ℕ, _+_, _*_, _≤_, _<_}
 use native.Mathlib.Omega.{arith}
 use lib.ListN.{length, set, drop, length-append}
 use borrow.Author.Tests.{le-leb, lt-leb}
-use Rattle.list.specs.Bytes.{front}
+use Rattle.octets.specs.Bytes.{front}
 use Rattle.list.specs.Entry.{flagsOf}
 use Rattle.list.specs.List.{cut, headBytes, render}
 use Rattle.list.proofs.Parts.{render-is}

@@ -8,8 +8,8 @@ use native.Mathlib.Omega.{arith}
 use lib.Dec.{leb}
 use lib.Bits.{bitOr}
 use borrow.Author.Tests.{leb-true, not-true}
-use Rattle.list.specs.Bytes.{has}
-use Rattle.list.proofs.Tests.{both-true}
+use Rattle.octets.specs.Bytes.{has}
+use Rattle.octets.proofs.Tests.{both-true}
 use Rattle.inherit.specs.Copies.{keptFlags}
 use Rattle.inherit.specs.Inner.Emit.{flagsBy}
 use Rattle.inherit.specs.declared.copies.Pass.{Pass}

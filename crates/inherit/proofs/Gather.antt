@@ -5,8 +5,8 @@ use Prim.Native.Nat.{ℕ, suc, _+_, _-_, _*_, _≤_}
 use native.Mathlib.Omega.{arith}
 use lib.ListN.{length, take, drop, length-append, length-drop, drop-of-length-le}
 use lib.Seq.{length-take-le, take-all}
-use Rattle.list.specs.Bytes.{front}
-use Rattle.list.proofs.Writes.{length-front, front-then}
+use Rattle.octets.specs.Bytes.{front}
+use Rattle.octets.proofs.Writes.{length-front, front-then}
 use Rattle.inherit.specs.declared.passes.Measure.{Measure}
 use Rattle.inherit.specs.Inner.Emit.{measureOf, both}
 use Rattle.inherit.specs.Inner.Plan.{onward}

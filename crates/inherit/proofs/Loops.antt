@@ -6,12 +6,12 @@ use Prim.Native.Nat.{ℕ, _+_, _-_, _*_, _≤_, _<_}
 use native.Mathlib.Omega.{arith}
 use lib.ListN.{length, take, drop, length-append, length-drop}
 use lib.Seq.{drop-drop}
-use Rattle.list.specs.Bytes.{front}
+use Rattle.octets.specs.Bytes.{front}
 use Rattle.list.specs.Entry.{access, sizeOf}
 use Rattle.list.specs.List.{cut}
 use Rattle.list.specs.Good.{Sound, Passes}
 use Rattle.list.proofs.Rows.{passes-turn}
-use Rattle.list.proofs.Writes.{Stands, grown, stands-none, stands-length}
+use Rattle.octets.proofs.Writes.{Stands, grown, stands-none, stands-length}
 use Rattle.inherit.specs.declared.copies.Pass.{Pass}
 use Rattle.inherit.specs.declared.copies.Origin.{Origin}
 use Rattle.inherit.specs.declared.passes.Measure.{Measure}

@@ -5,7 +5,7 @@ use Prim.Native.Nat.{ℕ, _+_, _-_, _≤_}
 use native.Mathlib.Omega.{arith}
 use lib.ListN.{length, take, drop, length-drop}
 use lib.Seq.{take-add, drop-drop, length-take-le}
-use Rattle.list.specs.Bytes.{spell}
+use Rattle.octets.specs.Bytes.{spell}
 use Rattle.list.specs.Identity.{sidLen, placeholderOf}
 use Rattle.list.specs.Entry.{kindOf, sizeOf, sidAt, sidLenOf, sidEnd, middleOf, sidOf, tailOf, EntryParts, entryBytes}
 use Rattle.list.specs.Good.{Bounds}

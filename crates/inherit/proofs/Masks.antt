@@ -5,8 +5,8 @@ use Prim.Native.Nat.{ℕ, _^_, _<_}
 use native.Mathlib.Omega.{arith}
 use lib.Bits.{bitAnd, bitOr, and-le-r, and-mask}
 use native.Mathlib.Nat.{mod-eq-of-lt}
-use Rattle.list.specs.Bytes.{has}
-use Rattle.list.proofs.Bits.{has-and, has-or, has-above}
+use Rattle.octets.specs.Bytes.{has}
+use Rattle.octets.proofs.Bits.{has-and, has-or, has-above}
 use Rattle.inherit.specs.declared.Mapping.{Mapping}
 use Rattle.inherit.specs.Last.{joined, mapped, mends, mended, lastMask}
 

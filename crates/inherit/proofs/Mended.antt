@@ -7,11 +7,11 @@ use mathlib.Core.Option.{none, some}
 use Prim.Native.Nat.{ℕ}
 use native.Mathlib.Omega.{arith}
 use lib.ListN.{set}
-use Rattle.list.specs.Bytes.{has}
+use Rattle.octets.specs.Bytes.{has}
 use Rattle.list.specs.Entry.{access, flagsOk, maskOf}
 use Rattle.list.specs.List.{entriesOf}
 use Rattle.list.specs.Good.{Whole, Every}
-use Rattle.list.proofs.Bits.{below-generic}
+use Rattle.octets.proofs.Bits.{below-generic}
 use Rattle.list.proofs.Revisions.{flags-ok, every-to}
 use Rattle.inherit.specs.declared.Mapping.{Mapping}
 use Rattle.inherit.specs.Asked.{Asked, Given, givenIn, entriesIf}
@@ -22,10 +22,10 @@ use Rattle.inherit.specs.Compute.{computeOf, bytesFor}
 use Rattle.inherit.specs.Said.{Low, NoGeneric, Stands, Copied}
 use Rattle.inherit.proofs.Masks.{last-same}
 use Rattle.inherit.proofs.Emits.{resolved-set}
-use Rattle.inherit.proofs.Results.{Copy, copy-is, planned-low, planned-again}
+use Rattle.inherit.proofs.Results.{Copy, copy-is, planned-low, planned-again, every-is}
 use Rattle.inherit.proofs.Copied.{planned-stands, copied-whole}
 use Rattle.inherit.proofs.Sources.{wholes-of}
-use Rattle.inherit.proofs.Theorems.{made, made-entries, computed-every, not-heritable}
+use Rattle.inherit.proofs.Theorems.{made, made-entries, computed-every, computed-small, not-heritable}
 
 two-mends : {rule : ℕ} → rule ≡ 2 → mends rule ≡ true
 unfolding mends
@@ -50,7 +50,8 @@ module _ (a : Asked) (room : ℕ) (r : a .rule ≡ 2) (h : computeOf a room .pre
   pub entries-again : Every (λ e. (g : Given) → resolved g e ≡ e) (entriesOf (bytesFor (resultOf access a)))
   entries-again =
       let m = made a room h in
-      computed-every a room h _ (planned-again (givenIn a) (m .owner .0) (m .group .0) (two-mends r) (m .owner .1) (m .group .1) _)
+      every-is _ (entriesOf (bytesFor (resultOf access a))) (computed-small a room h)
+      (computed-every a room h _ (planned-again (givenIn a) (m .owner .0) (m .group .0) (two-mends r) (m .owner .1) (m .group .1) _))
 
 last-again : (g : Given) (es : List (List ℕ)) → Every (λ e. (h : Given) → resolved h e ≡ e) es → lastStep g false es ≡ es
 unfolding lastStep lastOf

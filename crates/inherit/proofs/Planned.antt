@@ -9,7 +9,7 @@ use lib.ListN.{length, set}
 use lib.Seq.{set-getD}
 use lib.Dec.{eqb}
 use lib.Bits.{bitOr}
-use Rattle.list.specs.Bytes.{has}
+use Rattle.octets.specs.Bytes.{has}
 use Rattle.list.specs.List.{MaybeList, lent}
 use Rattle.list.specs.Entry.{access, flagsOf}
 use Rattle.list.specs.Good.{Whole, Every}

@@ -3,7 +3,7 @@ use mathlib.Core.Path.{_≡_, sym, _∙_}
 use mathlib.Core.Bool.{true, false}
 use mathlib.Core.List.{List}
 use Prim.Native.Nat.{ℕ}
-use Rattle.list.specs.Order.{need}
+use Rattle.octets.specs.Order.{need}
 use Rattle.list.specs.Entry.{access}
 use Rattle.list.specs.Answer.{refused}
 use Rattle.inherit.specs.Asked.{Asked, typesOk}

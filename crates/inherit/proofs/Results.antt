@@ -1,10 +1,10 @@
 -- What a result is: whole entries under the revision that they ask for, and no placeholder among them.
 use mathlib.Core.Path.{_≡_, refl, ap, _∙_}
 use mathlib.Core.Bool.{Bool, true, false, cond, _||_}
-use mathlib.Core.List.{List, [], _∷_, _++_}
+use mathlib.Core.List.{List, [], _∷_, _++_, flatten}
 use Prim.Native.Nat.{ℕ, _^_, _<_}
 use native.Mathlib.Omega.{arith}
-use lib.ListN.{length}
+use lib.ListN.{length, length-append}
 use lib.Dec.{eqb}
 use borrow.Author.Tests.{eqb-false}
 use Rattle.list.specs.Identity.{isSid, placeholderOf}
@@ -50,6 +50,20 @@ in-place-ordinary s owner group o g = by (eqb (placeholderOf s) 1) (eqb (placeho
     by false true p q = g
     by false false p q = no-placeholder s (eqb-false _ 1 p) (eqb-false _ 2 q)
 
+-- an entry whose size can be said; in a list of at most 65,532 bytes each is
+abbrev pub Small : List ℕ → Type 0
+Small x = length x < 65536
+
+pub every-small : (es : List (List ℕ)) → length (flatten es) < 65536 → Every Small es
+unfolding flatten
+every-small [] h = tt
+every-small (e ∷ es) h = let l = length-append e (flatten es) in (omega arith, every-small es (omega arith))
+
+-- what holds of small entries holds of entries that are small
+pub every-is : (P : List ℕ → Type 0) (es : List (List ℕ)) → Every Small es → Every (λ x. Small x → P x) es → Every P es
+every-is P [] a b = tt
+every-is P (e ∷ es) a b = (b .0 (a .0), every-is P es (a .1) (b .1))
+
 -- the fields of an entry's copy x, with these flags, under a rule that mends
 pub record Copy (g : Given) (e : List ℕ) (flags : ℕ) (x : List ℕ) : Type 0 where
   pub kind : kindOf x ≡ kindOf e
@@ -70,9 +84,9 @@ module _ (g : Given) (o : isSid (g .owner) ≡ true) (r : isSid (g .group) ≡ t
   one : OneSid put
   one = in-place-one (placeholderOf (sidOf e)) (sidOf e) (g .owner) (g .group) (one-own access rev e (w .sound)) (one-sid (g .owner) o) (one-sid (g .group) r)
 
-  copy-whole : Whole access rev (copyOf g flags e)
+  copy-whole : Small (copyOf g flags e) → Whole access rev (copyOf g flags e)
   unfolding copyOf
-  copy-whole = remade-whole access rev e w flags mask ok put one
+  copy-whole small = remade-whole access rev e w flags mask ok put one small
 
   copy-flags : flagsOf (copyOf g flags e) ≡ flags
   unfolding copyOf
@@ -106,14 +120,14 @@ module _ (g : Given) (o : isSid (g .owner) ≡ true) (r : isSid (g .group) ≡ t
     copy-low = rw mask-is mask-low
 
     -- another last step, under any rule, leaves the copy as it is
-    copy-again : placeholderOf (g .owner) ≡ 0 → placeholderOf (g .group) ≡ 0 → (h : Given) → resolved h (copyOf g flags e) ≡ copyOf g flags e
+    copy-again : placeholderOf (g .owner) ≡ 0 → placeholderOf (g .group) ≡ 0 → Small (copyOf g flags e) → (h : Given) → resolved h (copyOf g flags e) ≡ copyOf g flags e
     unfolding resolved copyOf
-    copy-again po pr h =
+    copy-again po pr small h =
         let x = copyOf g flags e in
         let s : inPlace (placeholderOf (sidOf x)) (sidOf x) (h .owner) (h .group) ≡ put =
         in-place-own (sidOf x) (h .owner) (h .group) (ap placeholderOf copy-sid ∙ in-place-ordinary (sidOf e) (g .owner) (g .group) po pr) ∙ copy-sid in
         let k : lastMask (h .rule) (h .mapping) (maskOf x) ≡ mask = last-same (h .mapping) (maskOf x) copy-low (h .rule) ∙ mask-is in
-        rw (s, k, copy-flags) (remade-again access rev e w flags mask ok put one)
+        rw (s, k, copy-flags) (remade-again access rev e w flags mask ok put one small)
 
 -- what an entry gives in a pass
 module _ (g : Given) (o : isSid (g .owner) ≡ true) (r : isSid (g .group) ≡ true) (p : Pass) (rev : ℕ) (e : List ℕ) (w : Whole access rev e) where
@@ -132,8 +146,8 @@ module _ (g : Given) (o : isSid (g .owner) ≡ true) (r : isSid (g .group) ≡ t
       by false q = rw (emit-no g p e q) tt
 
   -- a whole entry gives whole entries
-  pub emit-whole : Every (Whole access rev) (emitOf g p e)
-  emit-whole = every-given (Whole access rev) (copy-whole g o r rev e w (flagsBy p (flagsOf e)) known)
+  pub emit-whole : Every (λ x. Small x → Whole access rev x) (emitOf g p e)
+  emit-whole = every-given (λ x. Small x → Whole access rev x) (copy-whole g o r rev e w (flagsBy p (flagsOf e)) known)
 
   -- and none that names a placeholder
   pub emit-ordinary : placeholderOf (g .owner) ≡ 0 → placeholderOf (g .group) ≡ 0 → Every (λ x. placeholderOf (sidOf x) ≡ 0) (emitOf g p e)
@@ -146,7 +160,7 @@ module _ (g : Given) (o : isSid (g .owner) ≡ true) (r : isSid (g .group) ≡ t
 
   -- that no other last step changes
   pub emit-again : mends (g .rule) ≡ true → placeholderOf (g .owner) ≡ 0 → placeholderOf (g .group) ≡ 0
-      → Every (λ x. (h : Given) → resolved h x ≡ x) (emitOf g p e)
+      → Every (λ x. Small x → (h : Given) → resolved h x ≡ x) (emitOf g p e)
   emit-again m po pr = every-given _ (copy-again g o r rev e w (flagsBy p (flagsOf e)) known m po pr)
 
 -- what each entry gives, a pass gives, and a plan
@@ -195,10 +209,11 @@ rev-whole es a = by (anyObject es) refl
 -- the results of a pass and of a plan
 module _ (g : Given) (o : isSid (g .owner) ≡ true) (r : isSid (g .group) ≡ true) where
   pub planned-four : (q : Plan) (ps cs ds : List (List ℕ)) (rp rc rd : ℕ)
-      → Every (Whole access rp) ps → Every (Whole access rc) cs → Every (Whole access rd) ds → Every (Whole access 4) (planned g q ps cs ds)
+      → Every (Whole access rp) ps → Every (Whole access rc) cs → Every (Whole access rd) ds
+      → Every (λ x. Small x → Whole access 4 x) (planned g q ps cs ds)
   planned-four =
-      every-planned g (Whole access 4)
-      (λ p rev e w. every-to (Whole access rev) (Whole access 4) (whole-four access rev) (emitOf g p e) (emit-whole g o r p rev e w))
+      every-planned g (λ x. Small x → Whole access 4 x)
+      (λ p rev e w. every-to (λ x. Small x → Whole access rev x) (λ x. Small x → Whole access 4 x) (λ x h l. whole-four access rev x (h l)) (emitOf g p e) (emit-whole g o r p rev e w))
 
   module _ (po : placeholderOf (g .owner) ≡ 0) (pr : placeholderOf (g .group) ≡ 0) where
     pub planned-ordinary : (q : Plan) (ps cs ds : List (List ℕ)) (rp rc rd : ℕ)
@@ -215,5 +230,5 @@ module _ (g : Given) (o : isSid (g .owner) ≡ true) (r : isSid (g .group) ≡ t
     pub planned-again : placeholderOf (g .owner) ≡ 0 → placeholderOf (g .group) ≡ 0
         → (q : Plan) (ps cs ds : List (List ℕ)) (rp rc rd : ℕ)
         → Every (Whole access rp) ps → Every (Whole access rc) cs → Every (Whole access rd) ds
-        → Every (λ x. (h : Given) → resolved h x ≡ x) (planned g q ps cs ds)
+        → Every (λ x. Small x → (h : Given) → resolved h x ≡ x) (planned g q ps cs ds)
     planned-again po pr = every-planned g _ (λ p rev e w. emit-again g o r p rev e w m po pr)

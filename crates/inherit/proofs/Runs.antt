@@ -12,7 +12,7 @@ use Rattle.list.specs.Entry.{access}
 use Rattle.list.specs.Good.{Passes}
 use Rattle.list.specs.List.{cut}
 use Rattle.list.specs.Identity.{isSid, placeholderOf, identityOf, madeOf}
-use Rattle.list.proofs.Tests.{both-true}
+use Rattle.octets.proofs.Tests.{both-true}
 use Rattle.list.proofs.Sids.{identity-zero, Holds, made-holds}
 use Rattle.list.specs.declared.identities.Made.{Made}
 use Rattle.inherit.specs.declared.Settings.{Settings}

@@ -7,7 +7,7 @@ use native.Mathlib.Nat.{not-suc-le-zero}
 use native.Mathlib.Numerals.{sub-one}
 use lib.ListN.{drop}
 use lib.Seq.{drop-drop}
-use Rattle.list.specs.Bytes.{has}
+use Rattle.octets.specs.Bytes.{has}
 use Rattle.list.specs.Entry.{access, sizeOf}
 use Rattle.list.specs.List.{cut}
 use Rattle.list.specs.Good.{Sound, Passes}

@@ -5,7 +5,7 @@ use mathlib.Core.List.{List, [], _∷_}
 use mathlib.Core.Option.{none, some}
 use Prim.Native.Nat.{ℕ}
 use lib.ListN.{length}
-use Rattle.list.specs.Bytes.{Bytes, le, spell}
+use Rattle.octets.specs.Bytes.{Bytes, le, spell}
 use Rattle.list.specs.Entry.{Family, access}
 use Rattle.list.specs.List.{entriesOf, checkOf, headerOk, revOk, walkOf, finish, MaybeList}
 use Rattle.list.specs.Answer.{Values}

@@ -15,7 +15,7 @@ use Rattle.list.specs.Entry.{access, sidOf}
 use Rattle.list.specs.List.{entriesOf, render, checkOf, MaybeList}
 use Rattle.list.specs.Good.{Whole, Listed, Every}
 use Rattle.list.specs.declared.lists.Reading.the-variants.{Done}
-use Rattle.list.proofs.Tests.{both-true, true-or, eq-or}
+use Rattle.octets.proofs.Tests.{both-true, true-or, eq-or}
 use Rattle.list.proofs.Told.{reads}
 use Rattle.list.proofs.Parts.{Rendered, rendered, length-render}
 use Rattle.list.proofs.Revisions.{rev-known}
@@ -30,7 +30,7 @@ use Rattle.inherit.specs.Inner.Source.{sourceBy, sourceOf}
 use Rattle.inherit.proofs.Sources.{wholes-of}
 use Rattle.inherit.proofs.Refusals.{bad-rule, bad-parent, bad-creator, bad-default, bad-owner, bad-group, bad-types, all-good}
 use Rattle.inherit.proofs.Planned.{planFor, plan-is}
-use Rattle.inherit.proofs.Results.{rev-whole, planned-four, planned-ordinary}
+use Rattle.inherit.proofs.Results.{Small, every-small, every-is, rev-whole, planned-four, planned-ordinary}
 use Rattle.inherit.proofs.Runs.{one-sid-of}
 
 -- every test but the room's was passed
@@ -148,8 +148,14 @@ module _ (a : Asked) (room : ℕ) (m : Made a room) where
       subst (Every P) (sym (m .plan))
       (f _ _ _ _ _ _ (wholes-of (a .parent) (v .parent)) (wholes-of (a .creator) (v .creator)) (wholes-of (a .default) (v .default)))
 
+  made-small : Every Small made-es
+  made-small = every-small made-es (omega (arith, m .told .most))
+
   made-whole : Every (Whole access (revFor made-es)) made-es
-  made-whole = rev-whole made-es (made-every (Whole access 4) (planned-four (givenIn a) (m .owner .0) (m .group .0) (planFor a)))
+  made-whole =
+      rev-whole made-es
+      (every-is (Whole access 4) made-es made-small
+      (made-every (λ x. Small x → Whole access 4 x) (planned-four (givenIn a) (m .owner .0) (m .group .0) (planFor a))))
 
   made-list : Rendered access (revFor made-es) made-es
   made-list = rendered access (revFor made-es) made-es (rev-known (anyObject made-es)) made-whole (omega (arith, m .told .most))
@@ -165,6 +171,10 @@ pub computed-every : (a : Asked) (room : ℕ) → (h : computeOf a room .present
     → Every P (planned (givenIn a) (planFor a) ps cs ds))
     → Every P (entriesOf (bytesFor (resultOf access a)))
 computed-every a room h P f = let m = made a room h in subst (Every P) (sym (made-entries a room m)) (made-every a room m P f)
+
+-- each of them is small
+pub computed-small : (a : Asked) (room : ℕ) → computeOf a room .present ≡ 1 → Every Small (entriesOf (bytesFor (resultOf access a)))
+computed-small a room h = let m = made a room h in subst (Every Small) (sym (made-entries a room m)) (made-small a room m)
 
 -- a computed list: it reads as done, with the length and the count that the answer says, its entries end at its length, and none of them names a placeholder
 pub record Computes (bytes : List ℕ) (l n : ℕ) : Type 0 where

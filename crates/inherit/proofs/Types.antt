@@ -6,7 +6,7 @@ use Prim.Native.Nat.{ℕ, _+_, _≤_, _<_}
 use native.Mathlib.Numerals.{add-one}
 use lib.ListN.{length, take, drop, getD, drop-of-length-le}
 use lib.Seq.{length-take-le, drop-cons, getD-take}
-use Rattle.list.specs.Bytes.{sameBytes, among}
+use Rattle.octets.specs.Bytes.{sameBytes, among}
 
 -- one more is looked at, where i is below n
 pub among-step : (g : List ℕ) (ts : List (List ℕ)) (n i : ℕ) (d : List ℕ) → i < n → n ≤ length ts

@@ -5,12 +5,13 @@ use mathlib.Core.List.{List, [], _∷_, _++_, map, flatten}
 use mathlib.Core.Option.{none, some}
 use Prim.Native.Nat.{ℕ, _-_}
 use lib.ListN.{length, replicate}
-use Rattle.list.specs.Bytes.{le, spell, sameBytes, guidAt, among}
+use Rattle.octets.specs.Bytes.{le, spell, sameBytes, guidAt, among}
 use Rattle.list.specs.Identity.{sidLen, isSid, creator, placeholderOf, identityOf}
-use Rattle.list.specs.Order.{need}
-use Rattle.list.specs.Entry.{plainOf, objectOf, objectKind, kindOk, flagsOk, headOf, wordAfter, entryBytes, tailOk, entryOf}
+use Rattle.octets.specs.Order.{need}
+use Rattle.list.specs.Entry.{plainOf, objectOf, objectKind, kindOk, flagsOk, headOf, wordAfter, entryBytes, conditionalOf, conditionalKind, expressionOk, tailLong, sizeOk, entryOf}
 use Rattle.list.specs.List.{revOk, headerOk, cut, entriesOf, headBytes, render, onGood, walkOf, finish, checkOf, MaybeList}
 use Rattle.list.specs.Answer.{Values, done, refused}
+use Rattle.list.proofs.Examples.{expression-open}
 use Rattle.inherit.specs.declared.Mapping.{Mapping}
 use Rattle.inherit.specs.declared.Computed.the-variants.{Present, Absent, Refused}
 use Rattle.inherit.specs.Asked.{Asked, entriesIf, typesOk, typesOf}
@@ -133,12 +134,17 @@ computed k = record { answer = computeOf (askedIn k) (k .room); out = outOf (ask
 pub wanted : Row → Outcome
 wanted k = record { answer = k .answer; out = k .bytes ++ replicate (k .room - length (k .bytes)) 0 }
 
-pub worked : map computed table ≡ map wanted table
-unfolding table either without with-plain askedIn computed wanted flatten computeOf readable onReading ruleOk withRoom anyObject bytesFor written resultOf branch
+-- what the computation opens
+compute-open : Unit {0}
+unfolding flatten computeOf readable onReading ruleOk withRoom anyObject bytesFor written resultOf branch
     withCreator fromDefault inheritedBit lastStep lastOf resolved entryBytes lastMask mends mended mapped inPlace fromCreator ownEntries fromParent secondPart takesSecond
     firstPart takesFirst keptFlags pass typeApplies among anyHeritable entriesIf typesOk typesOf checkOf finish walkOf onGood headBytes render entriesOf cut
-    headerOk revOk entryOf need tailOk wordAfter headOf flagsOk kindOk objectKind objectOf plainOf identityOf placeholderOf isSid sidLen guidAt
+    headerOk revOk entryOf need sizeOk tailLong expressionOk conditionalKind conditionalOf wordAfter headOf flagsOk kindOk objectKind objectOf plainOf identityOf placeholderOf isSid sidLen guidAt
     sameBytes spell le
+compute-open = tt
+
+pub worked : map computed table ≡ map wanted table
+unfolding table either without with-plain askedIn computed wanted compute-open
 worked = refl
 
 -- masks as they came, one for each generic bit, all of them with a bit more, and none
@@ -298,7 +304,7 @@ pub record More : Type 0 where
   pub full-rule-1 :
       gives (ask 1 (some (listed 0x1C 1 (full 0x03 ∷ []))) none none true [] false) 48
       ≡ record { answer = done 48 1 2 0; out = listed 0x30 2 (full 0x10 ∷ full 0x1B ∷ []) }
-  -- 4.4: 12, then 1 to 5 of the parent's list, the creator's, the default list, then 6 for owner and group, then 7, then 8; the buffer as it was
+  -- 4.4: 12, then 1 to 5 or 15 of the parent's list, the creator's, the default list, then 6 for owner and group, then 7, then 8; the buffer as it was
   pub refusals :
       map (λ (a : Asked). computeOf a 0)
       (asked-of [] [] (0 ∷ []) short short short 0
@@ -319,11 +325,7 @@ pub record More : Type 0 where
   pub as-it-was : gives (ask 3 none none none true [] false) 2 ≡ record { answer = refused 12 0 0; out = 7 ∷ 7 ∷ [] }
 
 pub more : More
-unfolding flatten computeOf readable onReading ruleOk withRoom anyObject bytesFor written resultOf branch
-    withCreator fromDefault inheritedBit lastStep lastOf resolved entryBytes lastMask mends mended mapped inPlace fromCreator ownEntries fromParent secondPart takesSecond
-    firstPart takesFirst keptFlags pass typeApplies among anyHeritable entriesIf typesOk typesOf checkOf finish walkOf onGood headBytes render entriesOf cut
-    headerOk revOk entryOf need tailOk wordAfter headOf flagsOk kindOk objectKind objectOf plainOf identityOf placeholderOf isSid sidLen guidAt
-    sameBytes spell le
+unfolding compute-open
 more =
     record {
       placeholders = refl;
@@ -347,6 +349,91 @@ more =
       refusals = refl;
       as-it-was = refl;
     }
+
+-- ---- conditional entries (RULES 1.5, 2.8, 2.13): as allow and deny entries, with their expressions as they are
+
+-- Exists a, of 12 bytes; not that, of 13, with three zeros; the lone name a, with a zero
+abbrev known : List ℕ
+known = 0x61 ∷ 0x72 ∷ 0x74 ∷ 0x78 ∷ 0xF8 ∷ 2 ∷ 0 ∷ 0 ∷ 0 ∷ 0x61 ∷ 0 ∷ 0x87 ∷ []
+
+abbrev lacking : List ℕ
+lacking = 0x61 ∷ 0x72 ∷ 0x74 ∷ 0x78 ∷ 0xF8 ∷ 2 ∷ 0 ∷ 0 ∷ 0 ∷ 0x61 ∷ 0 ∷ 0x87 ∷ 0xA2 ∷ 0 ∷ 0 ∷ 0 ∷ []
+
+abbrev lone : List ℕ
+lone = 0x61 ∷ 0x72 ∷ 0x74 ∷ 0x78 ∷ 0xF8 ∷ 2 ∷ 0 ∷ 0 ∷ 0 ∷ 0x61 ∷ 0 ∷ 0 ∷ []
+
+-- an entry with the generic read bit; with what rules 2 and 1 make of it, 00120089 and 80120089; with mask 1
+abbrev reading : ℕ → ℕ → ℕ → List ℕ → List ℕ → List ℕ
+reading kind flags size sid tail = kind ∷ flags ∷ size ∷ 0 ∷ 0 ∷ 0 ∷ 0 ∷ 0x80 ∷ (sid ++ tail)
+
+abbrev mapped-to : ℕ → ℕ → ℕ → ℕ → List ℕ → List ℕ → List ℕ
+mapped-to top kind flags size sid tail = kind ∷ flags ∷ size ∷ 0 ∷ 0x89 ∷ 0 ∷ 0x12 ∷ top ∷ (sid ++ tail)
+
+abbrev one-bit : ℕ → ℕ → ℕ → List ℕ → List ℕ → List ℕ
+one-bit kind flags size sid tail = kind ∷ flags ∷ size ∷ 0 ∷ 0x01 ∷ 0 ∷ 0 ∷ 0 ∷ (sid ++ tail)
+
+-- rule, parent, creator, container, owner, room; auto inherit, not protected; and what is wanted
+conditions : ℕ → List ℕ → MaybeList → Bool → List ℕ → ℕ → Values → List ℕ → Row
+conditions rule parent creator container owner room answer bytes =
+    record { rule = rule; parent = parent; creator = creator; container = container; auto = true; protected = false; owner = owner; room = room; answer = answer; bytes = bytes }
+
+pub conditional-table : List Row
+conditional-table =
+    -- K1 with 09 and an expression, under either rule: two copies, each with the expression
+    conditions 2 (listed 0x28 1 (reading 0x09 0x03 0x20 (creators 0) known ∷ [])) none true system 72 (done 72 1 2 0)
+    (listed 0x48 2 (mapped-to 0x00 0x09 0x10 0x20 system known ∷ mapped-to 0x00 0x09 0x1B 0x20 system known ∷ []))
+    ∷ conditions 1 (listed 0x28 1 (reading 0x09 0x03 0x20 (creators 0) known ∷ [])) none true system 72 (done 72 1 2 0)
+    (listed 0x48 2 (mapped-to 0x80 0x09 0x10 0x20 system known ∷ mapped-to 0x80 0x09 0x1B 0x20 system known ∷ []))
+    -- an owner of two numbers: each entry has four bytes more; one byte of room too few
+    ∷ conditions 2 (listed 0x28 1 (reading 0x09 0x03 0x20 (creators 0) known ∷ [])) none true admins 80 (done 80 1 2 0)
+    (listed 0x50 2 (mapped-to 0x00 0x09 0x10 0x24 admins known ∷ mapped-to 0x00 0x09 0x1B 0x24 admins known ∷ []))
+    ∷ conditions 2 (listed 0x28 1 (reading 0x09 0x03 0x20 (creators 0) known ∷ [])) none true admins 79 (refused 8 0 0) []
+    -- K2 with 0A: one copy, for either owner; the expression's zeros stay too; K3 and K4; K6
+    ∷ conditions 2 (listed 0x28 1 (reading 0x0A 0x03 0x20 (creators 0) known ∷ [])) none false system 40 (done 40 1 1 0)
+    (listed 0x28 1 (mapped-to 0x00 0x0A 0x10 0x20 system known ∷ []))
+    ∷ conditions 2 (listed 0x2C 1 (reading 0x0A 0x01 0x24 (creators 0) lacking ∷ [])) none false admins 48 (done 48 1 1 0)
+    (listed 0x30 1 (mapped-to 0x00 0x0A 0x10 0x28 admins lacking ∷ []))
+    ∷ conditions 2 (listed 0x2C 1 (reading 0x0A 0x07 0x24 (creators 0) lacking ∷ [])) none true system 44 (done 44 1 1 0)
+    (listed 0x2C 1 (mapped-to 0x00 0x0A 0x10 0x24 system lacking ∷ []))
+    ∷ conditions 2 (listed 0x28 1 (reading 0x09 0x01 0x20 (creators 0) known ∷ [])) none true system 40 (done 40 1 1 0)
+    (listed 0x28 1 (mapped-to 0x00 0x09 0x19 0x20 system known ∷ []))
+    ∷ conditions 2 (listed 0x28 1 (reading 0x09 0x00 0x20 (creators 0) known ∷ [])) none true system 40 (done 0 0 0 0) []
+    -- from a parent of revision 4: revision 2 with 09 alone, also where an object entry stays behind; revision 4 with an object entry beside it
+    ∷ conditions 2 (listed4 0x28 1 (reading 0x09 0x01 0x20 (creators 0) known ∷ [])) none false system 40 (done 40 1 1 0)
+    (listed 0x28 1 (mapped-to 0x00 0x09 0x10 0x20 system known ∷ []))
+    ∷ conditions 2 (listed4 0x40 2 (untyped 0x01 ∷ reading 0x09 0x01 0x20 (creators 0) known ∷ [])) none false system 40 (done 40 1 1 0)
+    (listed 0x28 1 (mapped-to 0x00 0x09 0x10 0x20 system known ∷ []))
+    ∷ conditions 2 (listed4 0x40 2 (untyped 0x02 ∷ reading 0x09 0x02 0x20 (creators 0) known ∷ [])) none true system 96 (done 96 1 3 0)
+    (listed4 0x60 3 (mapped-to 0x00 0x09 0x10 0x20 system known ∷ untyped 0x1A ∷ mapped-to 0x00 0x09 0x1A 0x20 system known ∷ []))
+    -- rule 2, a creator: its 09 and 0A for creator group and for S-1-5-11, as they are, not one with ID; then the parent's; fifth row of 2.10, without those
+    ∷ conditions 2 (listed 0x28 1 (reading 0x0A 0x01 0x20 (creators 0) known ∷ []))
+    (some (listed 0x70 3 (one-bit 0x09 0x00 0x24 (creators 1) lacking ∷ one-bit 0x09 0x10 0x20 users known ∷ one-bit 0x0A 0x0B 0x24 users lacking ∷ [])))
+    false admins 116 (done 116 1 3 0x0400)
+    (listed 0x74 3 (one-bit 0x09 0x00 0x24 system lacking ∷ one-bit 0x0A 0x0B 0x24 users lacking ∷ mapped-to 0x00 0x0A 0x10 0x24 admins known ∷ []))
+    ∷ conditions 1 (listed 0x08 0 []) (some (listed 0x48 2 (one-bit 0x09 0x10 0x20 users known ∷ one-bit 0x0A 0x0B 0x20 (creators 1) known ∷ []))) true admins 40 (done 40 1 1 0)
+    (listed 0x28 1 (one-bit 0x0A 0x0B 0x20 system known ∷ []))
+    -- rule 1: of the creator nothing is left
+    ∷ conditions 1 (listed 0x28 1 (reading 0x09 0x01 0x20 (creators 0) known ∷ [])) (some (listed 0x28 1 (one-bit 0x09 0x03 0x20 users known ∷ []))) false system 40 (done 40 1 1 0x0400)
+    (listed 0x28 1 (mapped-to 0x80 0x09 0x10 0x20 system known ∷ []))
+    -- 15 of the parent's entry, of the creator's, whose second it is; both before 6 and 8; 2 of the parent's before 15 of the creator's
+    ∷ conditions 2 (listed 0x28 1 (reading 0x09 0x03 0x20 (creators 0) lone ∷ [])) none true (creators 0) 0 (refused 15 1 8) []
+    ∷ conditions 2 (listed 0x08 0 []) (some (listed 0x48 2 (one-bit 0x09 0x00 0x20 users known ∷ one-bit 0x0A 0x00 0x20 users lone ∷ []))) true (creators 0) 0 (refused 15 2 40) []
+    ∷ conditions 2 (listed 0x29 1 (one-bit 0x09 0x03 0x21 users (known ++ (0 ∷ [])) ∷ [])) (some (listed 0x28 1 (one-bit 0x09 0x00 0x20 users lone ∷ []))) true system 80 (refused 2 1 8) []
+    ∷ []
+
+pub conditional-worked : map computed conditional-table ≡ map wanted conditional-table
+unfolding conditional-table conditions askedIn computed wanted compute-open expression-open
+conditional-worked = refl
+
+-- the default list, all of it, with those that have ID; object types are asked of no conditional entry; 15 of the default list's entry
+pub conditional-default :
+    (gives (ask 2 none none (some (listed 0x48 2 (one-bit 0x09 0x1B 0x20 users known ∷ one-bit 0x0A 0x00 0x20 (creators 0) known ∷ []))) true [] false) 78
+    ≡ record { answer = done 76 1 2 0; out = listed 0x4C 2 (one-bit 0x09 0x1B 0x20 users known ∷ one-bit 0x0A 0x00 0x24 admins known ∷ []) ++ (7 ∷ 7 ∷ []) })
+    × ((gives (ask 2 (some (listed 0x28 1 (one-bit 0x09 0x01 0x20 users known ∷ []))) none none false seven-nine false) 40
+    ≡ record { answer = done 40 1 1 0; out = listed 0x28 1 (one-bit 0x09 0x10 0x20 users known ∷ []) })
+    × (gives (ask 2 none none (some (listed 0x28 1 (one-bit 0x09 0x1B 0x20 users lone ∷ []))) true [] false) 2 ≡ record { answer = refused 15 3 8; out = 7 ∷ 7 ∷ [] }))
+unfolding compute-open expression-open
+conditional-default = (refl, (refl, refl))
 
 -- what the public call's arguments ask: each argument in its place, each setting alone
 module _ (m : Mapping) (p c d t o g : List ℕ) where

@@ -5,7 +5,7 @@ use mathlib.Core.Bool.{Bool, _&&_}
 use mathlib.Core.Option.{none, some}
 use lib.ListN.{length, take}
 use lib.Dec.{eqb, leb}
-use Rattle.list.specs.Bytes.{guidAt}
+use Rattle.octets.specs.Bytes.{guidAt}
 use Rattle.list.specs.List.{entriesOf, MaybeList}
 use Rattle.inherit.specs.declared.Mapping.{Mapping}
 

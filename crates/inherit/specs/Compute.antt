@@ -6,8 +6,8 @@ use mathlib.Core.Bool.{Bool, true, false, not, cond, _&&_, _||_}
 use mathlib.Core.Option.{none, some}
 use lib.ListN.{length}
 use lib.Dec.{eqb, leb}
-use Rattle.list.specs.Bytes.{front}
-use Rattle.list.specs.Order.{need}
+use Rattle.octets.specs.Bytes.{front}
+use Rattle.octets.specs.Order.{need}
 use Rattle.list.specs.Identity.{identityOf}
 use Rattle.list.specs.Entry.{access, objectKind, kindOf}
 use Rattle.list.specs.List.{render, checkOf, MaybeList, lent}

@@ -4,7 +4,7 @@ use mathlib.Core.List.{List, [], _∷_, _++_}
 use mathlib.Core.Bool.{Bool, true, false, not, cond, _&&_, _||_}
 use lib.ListN.{set}
 use lib.Bits.{bitOr}
-use Rattle.list.specs.Bytes.{guidAt, has, among}
+use Rattle.octets.specs.Bytes.{guidAt, has, among}
 use Rattle.list.specs.Entry.{Family, access, objectKind, kindOf, flagsOf, wordOf}
 use Rattle.inherit.specs.Asked.{Given}
 
@@ -16,7 +16,7 @@ unfoldable pub anyHeritable : List (List ℕ) → Bool
 anyHeritable [] = false
 anyHeritable (e ∷ es) = heritable e || anyHeritable es
 
--- types 00 and 01 always; types 05 and 06 if the entry has an ObjectType that is among the object types
+-- types 00, 01, 09 and 0A always; types 05 and 06 if the entry has an ObjectType that is among the object types
 unfoldable pub typeApplies : Given → List ℕ → Bool
 typeApplies g e = cond (objectKind (kindOf e)) (has 1 (wordOf e) && among (guidAt e 12) (g .types)) true
 

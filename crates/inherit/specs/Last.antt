@@ -4,7 +4,7 @@ use mathlib.Core.List.{List, [], _∷_, _++_}
 use mathlib.Core.Bool.{Bool, not, cond, _||_}
 use lib.Dec.{eqb}
 use lib.Bits.{bitAnd, bitOr}
-use Rattle.list.specs.Bytes.{has}
+use Rattle.octets.specs.Bytes.{has}
 use Rattle.list.specs.Identity.{placeholderOf}
 use Rattle.list.specs.Entry.{kindOf, flagsOf, maskOf, middleOf, sidOf, tailOf, entryBytes}
 use Rattle.inherit.specs.declared.Mapping.{Mapping}

@@ -5,7 +5,7 @@ use mathlib.Core.List.{List, _∷_, _++_}
 use mathlib.Core.Logic.{_⊎_}
 use mathlib.Core.Option.{none, some}
 use Prim.Native.Nat.{ℕ, _^_, _<_}
-use Rattle.list.specs.Bytes.{has}
+use Rattle.octets.specs.Bytes.{has}
 use Rattle.list.specs.Entry.{flagsOf, maskOf}
 use Rattle.list.specs.List.{entriesOf, MaybeList}
 use Rattle.list.specs.Good.{Every}

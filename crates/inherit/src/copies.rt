@@ -4,7 +4,7 @@ ghost use mathlib.Core.Bool.{true, not, cond, _&&_};
 ghost use mathlib.Core.List.{List};
 ghost use Prim.Native.Nat.{ℕ, _≤_};
 ghost use lib.ListN.{take};
-ghost use Rattle.list.specs.Bytes.{guidAt, has as Given·has, among as Copies·among};
+ghost use Rattle.octets.specs.Bytes.{guidAt, has as Given·has, among as Copies·among};
 ghost use Rattle.list.specs.Entry.{objectKind, flagsOf};
 ghost use Rattle.list.specs.Look.{lookOf};
 ghost use Rattle.inherit.specs.Copies.{takesFirst};

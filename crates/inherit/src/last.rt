@@ -3,7 +3,7 @@ ghost use mathlib.Core.Path.{_≡_};
 ghost use mathlib.Core.List.{[], _∷_, _++_};
 ghost use Prim.Native.Nat.{_+_, _≤_};
 ghost use lib.ListN.{length};
-ghost use Rattle.list.specs.Bytes.{front, spell};
+ghost use Rattle.octets.specs.Bytes.{front, spell};
 ghost use Rattle.list.specs.Identity.{placeholderOf};
 ghost use Rattle.list.specs.Entry.{entryBytes};
 ghost use Rattle.inherit.specs.Last.{inPlace, joined as Last·joined, mapped as Last·mapped, mends as Last·mends, lastMask};
@@ -104,8 +104,8 @@ pub(crate) fn put_entry(
     let tail_at = sid_at + sid.len();
     let size = tail_at + tail.len();
     put_head(out, kind, flags, size, mask);
-    list::put(&mut out[8..], middle);
-    list::put(&mut out[sid_at..], sid);
-    list::put(&mut out[tail_at..], tail);
+    octets::put(&mut out[8..], middle);
+    octets::put(&mut out[sid_at..], sid);
+    octets::put(&mut out[tail_at..], tail);
     size
 }

@@ -4,7 +4,7 @@ ghost use mathlib.Core.List.{List, flatten};
 ghost use mathlib.Core.Bool.{cond, _||_};
 ghost use Prim.Native.Nat.{ℕ, _*_, _≤_};
 ghost use lib.ListN.{length, drop};
-ghost use Rattle.list.specs.Bytes.{front};
+ghost use Rattle.octets.specs.Bytes.{front};
 ghost use Rattle.list.specs.Entry.{access, sizeOf, entryBytes};
 ghost use Rattle.list.specs.Look.{lookOf};
 ghost use Rattle.list.specs.List.{cut};
@@ -71,7 +71,7 @@ fn put_copy<'a>(
     let size = look.size;
     if list::placeholder_at(t, sid) == 0 {
         put_head(out, look.kind, flags, size, mask);
-        list::put(&mut out[8..], &t[8..size]);
+        octets::put(&mut out[8..], &t[8..size]);
         return size;
     }
     let end = sid + list::sid_len_in(t, sid);

@@ -4,7 +4,7 @@ ghost use mathlib.Core.List.{flatten};
 ghost use mathlib.Core.Bool.{cond};
 ghost use Prim.Native.Nat.{_+_, _≤_};
 ghost use lib.ListN.{length};
-ghost use Rattle.list.specs.Bytes.{front};
+ghost use Rattle.octets.specs.Bytes.{front};
 ghost use Rattle.list.specs.List.{headBytes};
 ghost use Rattle.inherit.specs.Inner.Emit.{givenBy, emitted, measureOf};
 ghost use Rattle.inherit.specs.Inner.Plan.{gathered, onward, resultBy, Good, Ready};

@@ -7,7 +7,7 @@ use Prim.Native.Nat.{ℕ, zero, suc, _+_, _≤_}
 use native.Mathlib.Omega.{arith}
 use lib.ListN.{length, drop}
 use lib.Dec.{leb}
-use Rattle.list.specs.Order.{need}
+use Rattle.octets.specs.Order.{need}
 use Rattle.list.specs.Entry.{Family, access, entryOf, sizeOf}
 use Rattle.list.specs.List.{headerOk, onGood, walkOf, finish, checkOf, withRow, readOf, revOf, countOf}
 use Rattle.list.specs.Answer.{Values, entryNumber, readingValues, checkValues}
@@ -37,12 +37,12 @@ values-same (Refused k at) (Refused j to) e =
 pub checked : (r : Reading) (s : List ℕ) → readingValues r ≡ checkValues s → r ≡ checkOf access s
 checked r s e = values-same r (checkOf access s) e
 
--- an entry is refused by 2 to 5
+-- an entry is refused by 2 to 5 or 15
 pub data EntryNumber : Checked → Type 0 where
   good : {e : Entry} → EntryNumber (Good e)
-  bad : {k : ℕ} → 2 ≤ k → k ≤ 5 → EntryNumber (Bad k)
+  bad : {k : ℕ} → 2 ≤ k → (k ≤ 5) ⊎ (k ≡ 15) → EntryNumber (Bad k)
 
-need-number : (b : Bool) (n : ℕ) (rest : Checked) → 2 ≤ n → n ≤ 5 → EntryNumber rest → EntryNumber (need b (Bad n) rest)
+need-number : (b : Bool) (n : ℕ) (rest : Checked) → 2 ≤ n → (n ≤ 5) ⊎ (n ≡ 15) → EntryNumber rest → EntryNumber (need b (Bad n) rest)
 unfolding need
 need-number true n rest l m h = h
 need-number false n rest l m h = bad l m
@@ -50,15 +50,16 @@ need-number false n rest l m h = bad l m
 pub entry-number : (f : Family) (rev : ℕ) (t : List ℕ) → EntryNumber (entryOf f rev t)
 unfolding entryOf
 entry-number f rev t =
-    need-number _ 2 _ (omega arith) (omega arith)
-    (need-number _ 2 _ (omega arith) (omega arith)
-    (need-number _ 3 _ (omega arith) (omega arith)
-    (need-number _ 4 _ (omega arith) (omega arith)
-    (need-number _ 2 _ (omega arith) (omega arith)
-    (need-number _ 4 _ (omega arith) (omega arith)
-    (need-number _ 2 _ (omega arith) (omega arith)
-    (need-number _ 5 _ (omega arith) (omega arith)
-    (need-number _ 2 _ (omega arith) (omega arith) good))))))))
+    need-number _ 2 _ (omega arith) (inl (omega arith))
+    (need-number _ 2 _ (omega arith) (inl (omega arith))
+    (need-number _ 3 _ (omega arith) (inl (omega arith))
+    (need-number _ 4 _ (omega arith) (inl (omega arith))
+    (need-number _ 2 _ (omega arith) (inl (omega arith))
+    (need-number _ 4 _ (omega arith) (inl (omega arith))
+    (need-number _ 2 _ (omega arith) (inl (omega arith))
+    (need-number _ 5 _ (omega arith) (inl (omega arith))
+    (need-number _ 15 _ (omega arith) (inr refl)
+    (need-number _ 2 _ (omega arith) (inl (omega arith)) good)))))))))
 
 -- so its number is 0 exactly where it is good
 pub good-number-zero : (f : Family) (rev : ℕ) (t : List ℕ) → Sound f rev t → entryNumber (entryOf f rev t) ≡ 0
@@ -71,10 +72,10 @@ number-zero-good f rev t h = by (entryOf f rev t) refl (entry-number f rev t) h
     by (Good e) q n z = sound f rev t e q
     by (Bad k) q (bad l m) z = absurd (omega arith)
 
--- a list is refused by 1 to 5
+-- a list is refused by 1 to 5 or 15
 abbrev pub ListNumber : Reading → Type 0
 ListNumber (Done l n x) = Unit
-ListNumber (Refused k at) = (1 ≤ k) × (k ≤ 5)
+ListNumber (Refused k at) = (1 ≤ k) × ((k ≤ 5) ⊎ (k ≡ 15))
 
 cond-number : (b : Bool) (x y : Reading) → ListNumber x → ListNumber y → ListNumber (cond b x y)
 cond-number true x y h k = h
@@ -96,12 +97,12 @@ unfolding checkOf finish
 list-number f s =
     cond-number (headerOk s) _ _
     (walk-number f (revOf s) (countOf s) 8 (drop 8 s) _ (λ end. tt))
-    (omega arith, omega arith)
+    (omega arith, inl (omega arith))
 
 -- with its row by 8 besides, with offset 0; so the number is 0 exactly where the list was read
 abbrev pub ReadNumber : Reading → Type 0
 ReadNumber (Done l n x) = Unit
-ReadNumber (Refused k at) = ((1 ≤ k) × (k ≤ 5)) ⊎ ((k ≡ 8) × (at ≡ 0))
+ReadNumber (Refused k at) = ((1 ≤ k) × ((k ≤ 5) ⊎ (k ≡ 15))) ⊎ ((k ≡ 8) × (at ≡ 0))
 
 row-number : (m : ℕ) (r : Reading) → ListNumber r → ReadNumber (withRow m r)
 unfolding withRow

@@ -1,7 +1,7 @@
 -- Each public function's contract allows one result only, and one content of what it is lent to change.
 use mathlib.Core.Path.{_≡_, sym, _∙_}
 use denote.Ref.{now}
-use Rattle.list.proofs.Determinacy.{Determines, OneResult}
+use Rattle.octets.proofs.Determinacy.{Determines, OneResult}
 use Rattle.list.proofs.Answers.{values-same}
 use Rattle.list.proofs.identities.Sid.from_bytes.Kinds as from-bytes
 use Rattle.list.proofs.identities.Sid.from_bytes.Reads as from-bytes-reads
@@ -27,20 +27,10 @@ use Rattle.list.proofs.looks.look_at.Kinds as look-at
 use Rattle.list.proofs.looks.look_at.Reads as look-at-reads
 use Rattle.list.proofs.looks.placeholder_at.Kinds as placeholder-at
 use Rattle.list.proofs.looks.placeholder_at.Reads as placeholder-at-reads
-use Rattle.list.proofs.numbers.byte_in.Kinds as byte-in
-use Rattle.list.proofs.numbers.byte_in.Reads as byte-in-reads
-use Rattle.list.proofs.numbers.half_in.Kinds as half-in
-use Rattle.list.proofs.numbers.half_in.Reads as half-in-reads
-use Rattle.list.proofs.numbers.word_in.Kinds as word-in
-use Rattle.list.proofs.numbers.word_in.Reads as word-in-reads
-use Rattle.list.proofs.numbers.part_of.Kinds as part-of
-use Rattle.list.proofs.numbers.part_of.Reads as part-of-reads
-use Rattle.list.proofs.numbers.same_bytes.Kinds as same-bytes
-use Rattle.list.proofs.numbers.same_bytes.Reads as same-bytes-reads
-use Rattle.list.proofs.numbers.put.Kinds as put
-use Rattle.list.proofs.numbers.put.Reads as put-reads
 use Rattle.list.proofs.entries.is_object.Kinds as is-object
 use Rattle.list.proofs.entries.is_object.Reads as is-object-reads
+use Rattle.list.proofs.entries.is_conditional.Kinds as is-conditional
+use Rattle.list.proofs.entries.is_conditional.Reads as is-conditional-reads
 use Rattle.list.proofs.entries.entry_of.Kinds as entry-of
 use Rattle.list.proofs.entries.entry_of.Reads as entry-of-reads
 use Rattle.list.proofs.lists.check.Kinds as check
@@ -84,28 +74,11 @@ look-at-determined κs a x y s t p q = p ∙ sym q
 pub placeholder-at-determined : OneResult 1 placeholder-at.ps placeholder-at.r placeholder-at-reads.Learnt
 placeholder-at-determined κs a x y s t p q = p ∙ sym q
 
-pub byte-in-determined : OneResult 1 byte-in.ps byte-in.r byte-in-reads.Learnt
-byte-in-determined κs a x y s t p q = p ∙ sym q
-
-pub half-in-determined : OneResult 1 half-in.ps half-in.r half-in-reads.Learnt
-half-in-determined κs a x y s t p q = p ∙ sym q
-
-pub word-in-determined : OneResult 1 word-in.ps word-in.r word-in-reads.Learnt
-word-in-determined κs a x y s t p q = p ∙ sym q
-
-pub same-bytes-determined : OneResult 2 same-bytes.ps same-bytes.r same-bytes-reads.Learnt
-same-bytes-determined κs a x y s t p q = p ∙ sym q
-
--- the bytes of the part
-pub part-of-determined : Determines 1 part-of.ps part-of.r (λ κs x y s t. now x ≡ now y) part-of-reads.Learnt
-part-of-determined κs a x y s t p q = p ∙ sym q
-
--- the buffer afterwards
-pub put-determined : Determines 2 put.ps put.r (λ κs x y s t. now (s .0) ≡ now (t .0)) put-reads.Learnt
-put-determined κs a x y s t p q = p ∙ sym q
-
 pub is-object-determined : OneResult 0 is-object.ps is-object.r is-object-reads.Learnt
 is-object-determined κs a x y s t p q = p ∙ sym q
+
+pub is-conditional-determined : OneResult 0 is-conditional.ps is-conditional.r is-conditional-reads.Learnt
+is-conditional-determined κs a x y s t p q = p ∙ sym q
 
 pub entry-of-determined : OneResult 1 entry-of.ps entry-of.r entry-of-reads.Learnt
 entry-of-determined κs a x y s t p q = p ∙ sym q

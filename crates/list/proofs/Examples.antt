@@ -1,14 +1,16 @@
--- A dozen lists, each as small as can be, and what the reader answers, by computation.
+-- Lists, each as small as can be, and what the reader answers, by computation.
 use mathlib.Core.Path.{_≡_, refl}
 use mathlib.Core.Bool.{true, false}
 use mathlib.Core.List.{List, [], _∷_, _++_, map}
-use mathlib.Core.Option.{none, some}
+use mathlib.Core.Option.{none, some, bind}
 use Prim.Native.Nat.{ℕ}
 use lib.ListN.{take, drop, replicate}
-use Rattle.list.specs.Bytes.{le, spell, has, sameBytes, among, part, putOn, putAt, guidAt}
+use Rattle.octets.specs.Bytes.{le, spell, sameBytes}
 use Rattle.list.specs.Identity.{sidLen, wholeSid, isSid, placeholderOf, identityOf, bytesOf, placeholderSid, madeOf}
-use Rattle.list.specs.Order.{need}
-use Rattle.list.specs.Entry.{access, plainOf, objectOf, objectKind, kindOk, flagsOk, headOf, wordAfter, tailOk, entryOf}
+use Rattle.octets.specs.Order.{need}
+use Rattle.condition.specs.Token.{nameOk, oneToThree, literalAt, nameAt, comparisonOf, operatorOf, tokenAt, long, longAll, over, tokensIn}
+use Rattle.condition.specs.Kind.{operandKind, isOperand, isNamed, isCondition, taking, kindsAfter, kindsFrom, oneLeft, marked, zeros, acceptable, acceptedOf, endBy, upToFour}
+use Rattle.list.specs.Entry.{access, plainOf, objectOf, objectKind, kindOk, flagsOk, headOf, wordAfter, conditionalOf, conditionalKind, expressionOk, tailLong, sizeOk, entryOf}
 use Rattle.list.specs.Look.{lookOf}
 use Rattle.list.specs.List.{lent, revOk, headerOk, onGood, walkOf, finish, checkOf, withRow, readOf, offsets, rowBy, cut, entriesOf}
 use Rattle.list.specs.Spare.{withSpare, bareBy, bare, sizeSum}
@@ -17,6 +19,20 @@ use Rattle.list.specs.Answer.{Values, readDone, refused, readValues}
 -- allow, flags 0, mask 0, a SID of no number
 abbrev small : List ℕ
 small = 0x00 ∷ 0x00 ∷ 0x10 ∷ 0 ∷ 0 ∷ 0 ∷ 0 ∷ 0 ∷ 0x01 ∷ 0x00 ∷ 0 ∷ 0 ∷ 0 ∷ 0 ∷ 0 ∷ 0 ∷ []
+
+-- the expression Exists a, of 12 bytes, and bytes behind it; the lone name a, of 11
+abbrev known : List ℕ → List ℕ
+known behind = 0x61 ∷ 0x72 ∷ 0x74 ∷ 0x78 ∷ 0xF8 ∷ 2 ∷ 0 ∷ 0 ∷ 0 ∷ 0x61 ∷ 0 ∷ 0x87 ∷ behind
+
+abbrev lone : List ℕ → List ℕ
+lone behind = 0x61 ∷ 0x72 ∷ 0x74 ∷ 0x78 ∷ 0xF8 ∷ 2 ∷ 0 ∷ 0 ∷ 0 ∷ 0x61 ∷ 0 ∷ behind
+
+-- an entry of a SID of no number, 16 bytes, and bytes behind that; such a list of one entry
+abbrev tailed : ℕ → ℕ → List ℕ → List ℕ
+tailed kind size tail = kind ∷ 0x00 ∷ size ∷ 0 ∷ 0 ∷ 0 ∷ 0 ∷ 0 ∷ 0x01 ∷ 0x00 ∷ 0 ∷ 0 ∷ 0 ∷ 0 ∷ 0 ∷ 0 ∷ tail
+
+abbrev alone : ℕ → ℕ → List ℕ → List ℕ
+alone rev size e = rev ∷ 0 ∷ size ∷ 0 ∷ 0x01 ∷ 0 ∷ 0 ∷ 0 ∷ e
 
 -- a list, the row's length, and the answer
 pub record Example : Type 0 where
@@ -75,44 +91,76 @@ table =
     ∷ eg (0x02 ∷ 0 ∷ 0x28 ∷ 0 ∷ 0x02 ∷ 0 ∷ 0 ∷ 0 ∷ 0x00 ∷ 0x00 ∷ 0x10 ∷ 0 ∷ 0 ∷ 0 ∷ 0 ∷ 0 ∷ 0x01 ∷ 0x00 ∷ 0 ∷ 0 ∷ 0 ∷ 0 ∷ 0 ∷ 0
     ∷ 0x00 ∷ 0x00 ∷ 0x10 ∷ 0 ∷ 0 ∷ 0 ∷ 0 ∷ 0 ∷ 0x02 ∷ 0x00 ∷ 0 ∷ 0 ∷ 0 ∷ 0 ∷ 0 ∷ 0 ∷ []) 2 (refused 5 0 24)
     ∷ eg (0x02 ∷ 0 ∷ 0x18 ∷ 0 ∷ 0x01 ∷ 0 ∷ 0 ∷ 0 ∷ 0x00 ∷ 0x00 ∷ 0x10 ∷ 0 ∷ 0 ∷ 0 ∷ 0 ∷ 0 ∷ 0x01 ∷ 0x10 ∷ 0 ∷ 0 ∷ 0 ∷ 0 ∷ 0 ∷ 0 ∷ []) 1 (refused 5 0 8)
+    -- conditional entries: 09 and 0A under either revision, the expression of 12 bytes with no zero; 0A for S-1-5-18, flags 1F, a mask
+    ∷ eg (alone 0x02 0x24 (tailed 0x09 0x1C (known []))) 1 (readDone 36 1 36)
+    ∷ eg (alone 0x04 0x24 (tailed 0x09 0x1C (known []))) 1 (readDone 36 1 36)
+    ∷ eg (alone 0x02 0x24 (tailed 0x0A 0x1C (known []))) 1 (readDone 36 1 36)
+    ∷ eg (alone 0x04 0x28 (0x0A ∷ 0x1F ∷ 0x20 ∷ 0 ∷ 1 ∷ 2 ∷ 3 ∷ 4 ∷ 0x01 ∷ 0x01 ∷ 0 ∷ 0 ∷ 0 ∷ 0 ∷ 0 ∷ 0x05 ∷ 0x12 ∷ 0 ∷ 0 ∷ 0 ∷ known [])) 1 (readDone 40 1 40)
+    -- not that, of 13 bytes, with three zeros; not not, with two; not not not, with one; two entries; four zeros behind the entry, which are spare
+    ∷ eg (alone 0x02 0x28 (tailed 0x09 0x20 (known (0xA2 ∷ 0 ∷ 0 ∷ 0 ∷ [])))) 1 (readDone 40 1 40)
+    ∷ eg (alone 0x02 0x28 (tailed 0x09 0x20 (known (0xA2 ∷ 0xA2 ∷ 0 ∷ 0 ∷ [])))) 1 (readDone 40 1 40)
+    ∷ eg (alone 0x02 0x28 (tailed 0x0A 0x20 (known (0xA2 ∷ 0xA2 ∷ 0xA2 ∷ 0 ∷ [])))) 1 (readDone 40 1 40)
+    ∷ eg (0x02 ∷ 0 ∷ 0x44 ∷ 0 ∷ 0x02 ∷ 0 ∷ 0 ∷ 0 ∷ (tailed 0x09 0x1C (known []) ++ tailed 0x0A 0x20 (known (0xA2 ∷ 0 ∷ 0 ∷ 0 ∷ [])))) 2 (readDone 68 2 68)
+    ∷ eg (alone 0x02 0x28 (tailed 0x09 0x1C (known (0 ∷ 0 ∷ 0 ∷ 0 ∷ [])))) 1 (readDone 40 1 36)
+    -- 2: zeros are missing, three, two, one; one, two, three and four too many behind 12 bytes; four too many behind 13
+    ∷ eg (alone 0x02 0x25 (tailed 0x09 0x1D (known (0xA2 ∷ [])))) 1 (refused 2 0 8)
+    ∷ eg (alone 0x02 0x26 (tailed 0x09 0x1E (known (0xA2 ∷ 0 ∷ [])))) 1 (refused 2 0 8)
+    ∷ eg (alone 0x02 0x27 (tailed 0x09 0x1F (known (0xA2 ∷ 0 ∷ 0 ∷ [])))) 1 (refused 2 0 8)
+    ∷ eg (alone 0x02 0x25 (tailed 0x09 0x1D (known (0 ∷ [])))) 1 (refused 2 0 8)
+    ∷ eg (alone 0x02 0x26 (tailed 0x09 0x1E (known (0 ∷ 0 ∷ [])))) 1 (refused 2 0 8)
+    ∷ eg (alone 0x02 0x27 (tailed 0x09 0x1F (known (0 ∷ 0 ∷ 0 ∷ [])))) 1 (refused 2 0 8)
+    ∷ eg (alone 0x02 0x28 (tailed 0x0A 0x20 (known (0 ∷ 0 ∷ 0 ∷ 0 ∷ [])))) 1 (refused 2 0 8)
+    ∷ eg (alone 0x04 0x2C (tailed 0x09 0x24 (known (0xA2 ∷ 0 ∷ 0 ∷ 0 ∷ 0 ∷ 0 ∷ 0 ∷ 0 ∷ [])))) 1 (refused 2 0 8)
+    -- the SID ends past the size, though it and an expression are there
+    ∷ eg (alone 0x02 0x28 (0x09 ∷ 0x00 ∷ 0x10 ∷ 0 ∷ 0 ∷ 0 ∷ 0 ∷ 0 ∷ 0x01 ∷ 0x01 ∷ 0 ∷ 0 ∷ 0 ∷ 0 ∷ 0 ∷ 0x05 ∷ 0x12 ∷ 0 ∷ 0 ∷ 0 ∷ known [])) 1 (refused 2 0 8)
+    -- an expression behind the SID of an allow entry, and behind that of an object entry
+    ∷ eg (alone 0x02 0x24 (tailed 0x00 0x1C (known []))) 1 (refused 2 0 8)
+    ∷ eg (alone 0x04 0x28 (0x05 ∷ 0x00 ∷ 0x20 ∷ 0 ∷ 0 ∷ 0 ∷ 0 ∷ 0 ∷ 0 ∷ 0 ∷ 0 ∷ 0 ∷ 0x01 ∷ 0x00 ∷ 0 ∷ 0 ∷ 0 ∷ 0 ∷ 0 ∷ 0 ∷ known [])) 1 (refused 2 0 8)
+    -- 15: a 1 behind a zero; nothing behind the SID; a lone name with its zero; no four bytes at the front
+    ∷ eg (alone 0x02 0x28 (tailed 0x09 0x20 (known (0xA2 ∷ 0 ∷ 1 ∷ 0 ∷ [])))) 1 (refused 15 0 8)
+    ∷ eg (alone 0x02 0x28 (tailed 0x0A 0x20 (known (0 ∷ 0 ∷ 0 ∷ 1 ∷ [])))) 1 (refused 15 0 8)
+    ∷ eg (alone 0x02 0x18 (tailed 0x09 0x10 [])) 1 (refused 15 0 8)
+    ∷ eg (alone 0x04 0x18 (tailed 0x0A 0x10 [])) 1 (refused 15 0 8)
+    ∷ eg (alone 0x02 0x24 (tailed 0x09 0x1C (lone (0 ∷ [])))) 1 (refused 15 0 8)
+    ∷ eg (alone 0x02 0x20 (tailed 0x09 0x18 (0xF8 ∷ 2 ∷ 0 ∷ 0 ∷ 0 ∷ 0x61 ∷ 0 ∷ 0x87 ∷ []))) 1 (refused 15 0 8)
+    -- nothing behind the SID inside the size, though an expression follows there; one that the size cuts, though it goes on there
+    ∷ eg (alone 0x02 0x24 (tailed 0x09 0x10 (known []))) 1 (refused 15 0 8)
+    ∷ eg (alone 0x02 0x24 (tailed 0x09 0x1B (known []))) 1 (refused 15 0 8)
+    -- 15 before 2: a lone name without its zero, and with four too many; one zero alone
+    ∷ eg (alone 0x02 0x23 (tailed 0x09 0x1B (lone []))) 1 (refused 15 0 8)
+    ∷ eg (alone 0x02 0x28 (tailed 0x09 0x20 (lone (0 ∷ 0 ∷ 0 ∷ 0 ∷ 0 ∷ [])))) 1 (refused 15 0 8)
+    ∷ eg (alone 0x02 0x19 (tailed 0x09 0x11 (0 ∷ []))) 1 (refused 15 0 8)
+    -- 5 before 15; 4 before 15; 2 of (f) before 15, and of (d); types 08 and 0B are 3
+    ∷ eg (alone 0x02 0x18 (0x09 ∷ 0x00 ∷ 0x10 ∷ 0 ∷ 0 ∷ 0 ∷ 0 ∷ 0 ∷ 0x02 ∷ 0x00 ∷ 0 ∷ 0 ∷ 0 ∷ 0 ∷ 0 ∷ 0 ∷ [])) 1 (refused 5 0 8)
+    ∷ eg (alone 0x02 0x18 (0x09 ∷ 0x20 ∷ 0x10 ∷ 0 ∷ 0 ∷ 0 ∷ 0 ∷ 0 ∷ 0x01 ∷ 0x00 ∷ 0 ∷ 0 ∷ 0 ∷ 0 ∷ 0 ∷ 0 ∷ [])) 1 (refused 4 0 8)
+    ∷ eg (alone 0x02 0x18 (tailed 0x09 0x0F [])) 1 (refused 2 0 8)
+    ∷ eg (alone 0x02 0x18 (tailed 0x09 0x07 [])) 1 (refused 2 0 8)
+    ∷ eg (alone 0x04 0x24 (tailed 0x08 0x1C (known []))) 1 (refused 3 0 8)
+    ∷ eg (alone 0x04 0x24 (tailed 0x0B 0x1C (known []))) 1 (refused 3 0 8)
+    -- 15 of the second entry, behind an allow entry and behind a conditional one; of the first one, though the second is 3; before 8
+    ∷ eg (0x02 ∷ 0 ∷ 0x28 ∷ 0 ∷ 0x02 ∷ 0 ∷ 0 ∷ 0 ∷ (small ++ tailed 0x09 0x10 [])) 2 (refused 15 0 24)
+    ∷ eg (0x02 ∷ 0 ∷ 0x40 ∷ 0 ∷ 0x02 ∷ 0 ∷ 0 ∷ 0 ∷ (tailed 0x09 0x1C (known []) ++ tailed 0x0A 0x1C (lone (0 ∷ [])))) 2 (refused 15 0 36)
+    ∷ eg (0x02 ∷ 0 ∷ 0x28 ∷ 0 ∷ 0x02 ∷ 0 ∷ 0 ∷ 0 ∷ (tailed 0x09 0x10 [] ++ tailed 0x05 0x10 [])) 2 (refused 15 0 8)
+    ∷ eg (alone 0x02 0x18 (tailed 0x09 0x10 [])) 0 (refused 15 0 8)
+    ∷ eg (alone 0x02 0x24 (tailed 0x09 0x1C (known []))) 0 (refused 8 0 0)
     -- 8: a good entry, and no room in the row
     ∷ eg (0x02 ∷ 0 ∷ 0x18 ∷ 0 ∷ 0x01 ∷ 0 ∷ 0 ∷ 0 ∷ 0x00 ∷ 0x00 ∷ 0x10 ∷ 0 ∷ 0 ∷ 0 ∷ 0 ∷ 0 ∷ 0x01 ∷ 0x00 ∷ 0 ∷ 0 ∷ 0 ∷ 0 ∷ 0 ∷ 0 ∷ []) 0 (refused 8 0 0)
     ∷ []
 
+-- what an expression opens
+unfoldable pub expression-open : Unit {0}
+unfolding endBy acceptedOf marked sameBytes acceptable zeros upToFour tokensIn over long longAll oneLeft kindsFrom kindsAfter taking operandKind isOperand isNamed isCondition bind
+    tokenAt literalAt nameAt operatorOf comparisonOf nameOk oneToThree le
+expression-open = tt
+
 -- what an entry's test opens
 entry-open : Unit {0}
-unfolding entryOf need kindOk plainOf objectOf objectKind flagsOk headOf wordAfter tailOk sidLen le
+unfolding entryOf need kindOk plainOf objectOf objectKind flagsOk headOf wordAfter conditionalOf conditionalKind expressionOk tailLong sizeOk sidLen le expression-open
 entry-open = tt
 
 pub examples : map (λ x. readValues (x .list) (x .row)) table ≡ map (λ x. x .answer) table
 unfolding table eg readOf withRow checkOf headerOk revOk walkOf onGood finish entry-open
 examples = refl
-
--- ---- bytes: numbers, parts, and what a writer leaves
-
-pub bytes-worked :
-    (le 2 (1 ∷ 2 ∷ 3 ∷ []) ≡ 513)
-    × ((le 4 (0x78 ∷ 0x56 ∷ 0x34 ∷ 0x12 ∷ 9 ∷ []) ≡ 0x12345678)
-    × ((le 4 (1 ∷ []) ≡ 1)
-    × ((spell 4 0x12345678 ≡ 0x78 ∷ 0x56 ∷ 0x34 ∷ 0x12 ∷ [])
-    × ((part 1 2 (5 ∷ 6 ∷ 7 ∷ 8 ∷ []) ≡ 6 ∷ 7 ∷ [])
-    × ((part 3 2 (5 ∷ 6 ∷ 7 ∷ 8 ∷ []) ≡ 8 ∷ [])
-    × ((putOn (1 ∷ 2 ∷ []) (5 ∷ 6 ∷ 7 ∷ []) ≡ 1 ∷ 2 ∷ 7 ∷ [])
-    × ((putOn (1 ∷ 2 ∷ 3 ∷ []) (5 ∷ 6 ∷ []) ≡ 1 ∷ 2 ∷ [])
-    × (putAt 1 (1 ∷ 2 ∷ []) (5 ∷ 6 ∷ 7 ∷ 8 ∷ []) ≡ 5 ∷ 1 ∷ 2 ∷ 8 ∷ []))))))))
-unfolding le spell part putOn putAt
-bytes-worked = (refl, (refl, (refl, (refl, (refl, (refl, (refl, (refl, refl))))))))
-
--- bits of a number, any of several; and bytes that are one of several, whole
-pub tests-worked :
-    (has 0x08 0x18 ≡ true)
-    × ((has 0x08 0x17 ≡ false)
-    × ((has 0xF0000000 0x20000001 ≡ true)
-    × ((has 0xF0000000 0x0FFFFFFF ≡ false)
-    × ((among (1 ∷ 2 ∷ []) ((1 ∷ []) ∷ (1 ∷ 2 ∷ []) ∷ []) ≡ true)
-    × ((among (1 ∷ 2 ∷ []) ((1 ∷ 2 ∷ 3 ∷ []) ∷ (2 ∷ 1 ∷ []) ∷ (1 ∷ []) ∷ []) ≡ false) × (among [] [] ≡ false))))))
-unfolding among sameBytes
-tests-worked = (refl, (refl, (refl, (refl, (refl, (refl, refl))))))
 
 -- a list that is given is that list, an empty one too; else there is none
 pub lent-worked : (s : List ℕ) → (lent true s ≡ some s) × (lent false s ≡ none)
@@ -152,11 +200,6 @@ pub made-worked :
     × (bytesOf (placeholderSid 1) ≡ creators 1))))
 unfolding madeOf isSid sidLen
 made-worked = (refl, (refl, (refl, (refl, refl))))
-
--- a GUID that is there, and one that isn't whole
-pub guids-worked : (guidAt (7 ∷ replicate 16 9) 1 ≡ replicate 16 9) × (guidAt (7 ∷ replicate 15 9) 1 ≡ replicate 16 0)
-unfolding guidAt
-guids-worked = (refl, refl)
 
 -- ---- the row afterwards (RULES 1.7): the offsets of two entries, of 20 and of 16 bytes, and the rest as it was; where it is refused, all as it was
 

@@ -1,9 +1,5 @@
-pub mod Little
-pub mod Writes
-pub mod Places
-pub mod Tests
-pub mod Bits
 pub mod Sids
+pub mod Padding
 pub mod Cases
 pub mod Walks
 pub mod Told
@@ -13,7 +9,6 @@ pub mod Spare
 pub mod Remade
 pub mod Revisions
 pub mod Rows
-pub mod Determinacy
 pub mod Answers
 pub mod Determined
 pub mod Examples

@@ -7,13 +7,13 @@ use native.Mathlib.Nat.{le-of-suc-le-suc, not-suc-le-zero}
 use native.Mathlib.Omega.{arith}
 use lib.ListN.{length, take, drop, getD, length-append, length-drop, take-append-drop}
 use lib.Seq.{drop-cons, drop-drop, drop-at, take-at, length-take-le}
-use Rattle.list.specs.Bytes.{le, spell}
+use Rattle.octets.specs.Bytes.{le, spell}
 use Rattle.list.specs.Entry.{Family, entryOf, sizeOf, kindOf, fieldsOf}
 use Rattle.list.specs.List.{cut, entriesEnd, entriesOf, offsets, headBytes, render, revOk, revOf, countOf, checkOf}
 use Rattle.list.specs.Good.{Whole, Passes, Header, Listed, Every}
 use Rattle.list.specs.declared.entries.Checked.the-variants.{Good}
 use Rattle.list.specs.declared.lists.Reading.the-variants.{Done}
-use Rattle.list.proofs.Little.{le-append, le-spell, length-spell}
+use Rattle.octets.proofs.Little.{le-append, le-spell, length-spell}
 use Rattle.list.proofs.Cases.{is-good}
 use Rattle.list.proofs.Told.{reads}
 use Rattle.list.proofs.Pieces.{joined, join, split, fields-same, head-ge}

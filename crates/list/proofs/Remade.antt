@@ -8,15 +8,15 @@ use lib.ListN.{length, take, drop, set, length-append, length-drop, take-append-
 use lib.Seq.{length-take-le, take-length, take-append-le, drop-append-le, take-at, drop-at, drop-drop, drop-set-lt, getD-set-same, getD-set-other}
 use lib.Dec.{eqb}
 use borrow.Author.Tests.{eqb-true, eq-eqb, le-leb}
-use Rattle.list.specs.Bytes.{has, le, spell, guidAt}
+use Rattle.octets.specs.Bytes.{has, le, spell, guidAt}
 use Rattle.list.specs.Identity.{sidLen}
-use Rattle.list.specs.Entry.{Family, flagsOk, tailOk, EntryParts, entryBytes, kindOf, sizeOf, flagsOf, maskOf, objectKind, headOf, wordAfter, wordOf}
+use Rattle.list.specs.Entry.{Family, flagsOk, tailLong, expressionOk, sizeOk, EntryParts, entryBytes, kindOf, sizeOf, flagsOf, maskOf, objectKind, headOf, wordAfter, wordOf}
 use Rattle.list.specs.Entry.{guidsOf, sidAt, sidLenOf, sidEnd, middleOf, sidOf, tailOf}
 use Rattle.list.specs.Good.{Sound, Whole, Bounds}
-use Rattle.list.proofs.Little.{le-append, le-spell, length-spell}
-use Rattle.list.proofs.Bits.{odd}
+use Rattle.octets.proofs.Little.{le-append, le-spell, length-spell}
+use Rattle.octets.proofs.Bits.{odd}
 use Rattle.list.proofs.Sids.{OneSid, sid-length, sid-append}
-use Rattle.list.proofs.Pieces.{Same, joined, split, head-ge}
+use Rattle.list.proofs.Pieces.{Same, joined, split, sid-inside, head-ge}
 
 -- general laws of lists and numbers, which would stand in Little or in a file of their own
 -- how long a part is that lies inside t
@@ -53,14 +53,9 @@ object-head k h = rw h
 pub guids-le : (w : ℕ) → guidsOf w ≤ 32
 guids-le w = omega arith
 
--- the SID ends where the entry does
-pub ends-exact : (f : Family) (rev : ℕ) (t : List ℕ) → Sound f rev t → sidEnd t ≡ sizeOf t
-unfolding tailOk
-ends-exact f rev t s = eqb-true (sidEnd t) (sizeOf t) (s .tail)
-
 pub bounds : (f : Family) (rev : ℕ) (t : List ℕ) → Sound f rev t → Bounds t
 bounds f rev t s =
-    let e = ends-exact f rev t s in
+    let e = sid-inside f rev t s in
     let a : 8 ≤ sidAt t = omega (arith, head-ge (kindOf t)) in
     record {
       eight = a;
@@ -219,15 +214,8 @@ module _ (f : Family) (rev : ℕ) (e : List ℕ) (w : Whole f rev e) (flags mask
   pub remade-mask : mask < 4294967296 → maskOf (remake e flags mask sid) ≡ mask
   remade-mask = mask-entry (remadeParts e flags mask sid)
 
-  pub remade-length : length (remake e flags mask sid) ≡ sidAt e + length sid
-  remade-length =
-      let b = bounds f rev e (w .sound) in
-      omega (arith, length-entry (remadeParts e flags mask sid), ends-exact f rev e (w .sound))
-
-  pub remade-size : sizeOf (remake e flags mask sid) ≡ length (remake e flags mask sid)
-  remade-size =
-      let b = bounds f rev e (w .sound) in
-      size-entry (remadeParts e flags mask sid) (omega (arith, ends-exact f rev e (w .sound), one .exact, sid-length sid (one .some)))
+  pub remade-length : length (remake e flags mask sid) ≡ sidAt e + length sid + length (tailOf e)
+  remade-length = omega (arith, length-entry (remadeParts e flags mask sid), bounds f rev e (w .sound))
 
   rest : drop 8 (remake e flags mask sid) ≡ middleOf e ++ (sid ++ tailOf e)
   rest = rest-entry (remadeParts e flags mask sid)
@@ -269,40 +257,49 @@ module _ (f : Family) (rev : ℕ) (e : List ℕ) (w : Whole f rev e) (flags mask
   pub remade-sidEnd : sidEnd (remake e flags mask sid) ≡ sidAt e + length sid
   remade-sidEnd = ap₂ (λ (x y : ℕ). x + y) remade-sidAt remade-sidLen
 
-  pub remade-tail : tailOf (remake e flags mask sid) ≡ tailOf e
-  remade-tail =
-      let m = remake e flags mask sid in
-      let n : sizeOf m - sidEnd m ≡ length (tailOf e) =
-      omega (arith, remade-size, remade-sidEnd, length-entry (remadeParts e flags mask sid), bounds f rev e (w .sound)) in
-      let d : drop (sidEnd m) m ≡ tailOf e =
-      ap (λ (i : ℕ). drop (sidAt m + i) m) remade-sidLen ∙ sym (drop-drop (length sid) (sidAt m) m) ∙ ap (drop (length sid)) after ∙ drop-at sid (tailOf e) (length sid) refl in
-      ap₂ (λ (i : ℕ) (s : List ℕ). take i s) n d ∙ take-length (tailOf e)
+  -- where its size can be said
+  module _ (small : length (remake e flags mask sid) < 65536) where
+    pub remade-size : sizeOf (remake e flags mask sid) ≡ length (remake e flags mask sid)
+    remade-size = size-entry (remadeParts e flags mask sid) (omega (arith, length-entry (remadeParts e flags mask sid)))
 
-  -- made again of its own parts it is the same
-  pub remade-again : remake (remake e flags mask sid) flags mask sid ≡ remake e flags mask sid
-  unfolding entryBytes
-  remade-again = rw (remade-kind, remade-middle, remade-tail)
+    pub remade-tail : tailOf (remake e flags mask sid) ≡ tailOf e
+    remade-tail =
+        let m = remake e flags mask sid in
+        let n : sizeOf m - sidEnd m ≡ length (tailOf e) = omega (arith, remade-size, remade-sidEnd, remade-length) in
+        let d : drop (sidEnd m) m ≡ tailOf e =
+        ap (λ (i : ℕ). drop (sidAt m + i) m) remade-sidLen ∙ sym (drop-drop (length sid) (sidAt m) m) ∙ ap (drop (length sid)) after ∙ drop-at sid (tailOf e) (length sid) refl in
+        ap₂ (λ (i : ℕ) (s : List ℕ). take i s) n d ∙ take-length (tailOf e)
 
-  pub remade-whole : Whole f rev (remake e flags mask sid)
-  unfolding tailOk
-  remade-whole =
-      let g = w .sound in
-      let b = bounds f rev e g in
-      let m = remake e flags mask sid in
-      let l = sid-length sid (one .some) in
-      let s : sizeOf m ≡ sidAt e + length sid = remade-size ∙ remade-length in
-      record {
-        sound =
-            record {
-              four = omega (arith, remade-length);
-              within = omega (arith, remade-size);
-              kind = rw remade-kind (g .kind);
-              flags = rw remade-flags ok;
-              head = omega (arith, ap headOf remade-kind);
-              word = omega (arith, remade-word, g .word);
-              eight = omega (arith, remade-sidAt, one .exact);
-              sid = omega (arith, remade-sidLen, one .exact);
-              tail = eq-eqb (sidEnd m) (sizeOf m) (remade-sidEnd ∙ sym s);
-            };
-        whole = remade-size;
-      }
+    -- made again of its own parts it is the same
+    pub remade-again : remake (remake e flags mask sid) flags mask sid ≡ remake e flags mask sid
+    unfolding entryBytes
+    remade-again = rw (remade-kind, remade-middle, remade-tail)
+
+    pub remade-whole : Whole f rev (remake e flags mask sid)
+    unfolding expressionOk sizeOk
+    remade-whole =
+        let g = w .sound in
+        let b = bounds f rev e g in
+        let m = remake e flags mask sid in
+        let l = sid-length sid (one .some) in
+        let s : sizeOf m ≡ sidAt e + length sid + length (tailOf e) = remade-size ∙ remade-length in
+        let x : sidEnd m ≤ sizeOf m = omega (arith, remade-sidEnd, s) in
+        record {
+          sound =
+              record {
+                four = omega (arith, remade-length);
+                within = omega (arith, remade-size);
+                kind = rw remade-kind (g .kind);
+                flags = rw remade-flags ok;
+                head = omega (arith, ap headOf remade-kind);
+                word = omega (arith, remade-word, g .word);
+                eight = omega (arith, remade-sidAt, one .exact);
+                sid = omega (arith, remade-sidLen, one .exact);
+                expression = rw (remade-tail, le-leb (sidEnd m) (sizeOf m) x, remade-kind) (rw (le-leb (sidEnd e) (sizeOf e) (b .sid)) at (g .expression));
+                tail =
+                    rw remade-tail
+                    (eq-eqb (sidEnd m + tailLong (kindOf m) (tailOf e)) (sizeOf m)
+                    (omega (arith, remade-sidEnd, s, ap (λ (k : ℕ). tailLong k (tailOf e)) remade-kind, sid-inside f rev e g, b .tail-length)));
+              };
+          whole = remade-size;
+        }

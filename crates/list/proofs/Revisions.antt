@@ -8,7 +8,7 @@ use lib.ListN.{length, take, drop, take-append-drop, length-drop}
 use lib.Seq.{length-take-le}
 use lib.Dec.{eqb}
 use borrow.Author.Tests.{leb-true, le-leb}
-use Rattle.list.specs.Bytes.{sameBytes}
+use Rattle.octets.specs.Bytes.{sameBytes}
 use Rattle.list.specs.Identity.{sidLen, creator, placeholderOf}
 use Rattle.list.specs.Entry.{Family, access, plainOf, objectOf, objectKind, kindOk, flagsOk, kindOf, sidAt, sidOf}
 use Rattle.list.specs.List.{revOk}
@@ -63,6 +63,7 @@ whole-under f rev r e w k =
             word = s .word;
             eight = s .eight;
             sid = s .sid;
+            expression = s .expression;
             tail = s .tail;
           };
       whole = w .whole;

@@ -5,14 +5,14 @@ use Prim.Native.Nat.{ℕ, zero, _+_, _-_, _≤_, _<_}
 use native.Mathlib.Omega.{arith}
 use lib.ListN.{length, take, drop, getD, length-append, length-drop, take-append-drop, List·getD-append}
 use lib.Seq.{drop-drop, drop-at, take-at, drop-append-le, length-take-le, take-all}
-use Rattle.list.specs.Bytes.{Bytes, le, spell}
+use Rattle.octets.specs.Bytes.{Bytes, le, spell}
 use Rattle.list.specs.Entry.{Family}
 use Rattle.list.specs.List.{entriesEnd, entriesOf, offsets, revOf, countOf, checkOf}
 use Rattle.list.specs.Good.{Whole, Header, Listed, Every}
 use Rattle.list.specs.Spare.{withSpare, bareBy, bare, Sized, sizeSum}
 use Rattle.list.specs.declared.lists.Reading.{Reading}
 use Rattle.list.specs.declared.lists.Reading.the-variants.{Done, Refused}
-use Rattle.list.proofs.Little.{le-lt, le-drop-append, length-spell, spell-le, bytes-drop}
+use Rattle.octets.proofs.Little.{le-lt, le-drop-append, length-spell, spell-le, bytes-drop}
 use Rattle.list.proofs.Told.{Told, told, reads}
 use Rattle.list.proofs.Parts.{Laid, laid, size-joined, fewer, field, tiled, passes-built, cut-built, end-built}
 

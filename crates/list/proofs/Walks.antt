@@ -8,7 +8,7 @@ use native.Mathlib.Numerals.{sub-one}
 use native.Mathlib.Omega.{arith}
 use lib.ListN.{length, drop, getD}
 use lib.Dec.{eqb}
-use Rattle.list.specs.Bytes.{le}
+use Rattle.octets.specs.Bytes.{le}
 use Rattle.list.specs.Entry.{Family, entryOf, sizeOf}
 use Rattle.list.specs.List.{revOk, revOf, headerOk, onGood, walkOf, entriesEnd}
 use Rattle.list.specs.Good.{Sound, Passes, Header}
@@ -17,7 +17,7 @@ use Rattle.list.specs.declared.entries.Checked.{Checked}
 use Rattle.list.specs.declared.entries.Checked.the-variants.{Good, Bad}
 use Rattle.list.specs.declared.lists.Reading.{Reading}
 use Rattle.list.specs.declared.lists.Reading.the-variants.{Done, Refused}
-use Rattle.list.proofs.Tests.{tests, le-or, true-or, eq-or, off}
+use Rattle.octets.proofs.Tests.{tests, le-or, true-or, eq-or, off}
 use Rattle.list.proofs.Cases.{sound, is-good}
 
 module _ (s : List ℕ) where

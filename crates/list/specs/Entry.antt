@@ -4,8 +4,9 @@ use mathlib.Core.List.{List, [], _∷_, _++_}
 use mathlib.Core.Bool.{Bool, true, false, cond, _&&_, _||_}
 use lib.ListN.{length, getD, take, drop}
 use lib.Dec.{eqb, leb, ltb}
-use Rattle.list.specs.Order.{need}
-use Rattle.list.specs.Bytes.{le, spell}
+use Rattle.octets.specs.Order.{need}
+use Rattle.octets.specs.Bytes.{le, spell}
+use Rattle.condition.specs.Kind.{storedEnd, upToFour}
 use Rattle.list.specs.Identity.{sidLen}
 use Rattle.list.specs.declared.entries.Entry.{Entry}
 use Rattle.list.specs.declared.entries.Checked.{Checked}
@@ -15,17 +16,24 @@ use Rattle.list.specs.declared.entries.Checked.the-variants.{Good, Bad}
 pub data Family : Type 0 where
   access : Family
 
--- types that go on with a SID: 00 allow, 01 deny
+-- types with an expression behind the SID: 09 conditional allow, 0A conditional deny
+unfoldable pub conditionalOf : Family → ℕ → Bool
+conditionalOf access k = eqb k 9 || eqb k 10
+
+-- types that go on with a SID: 00 allow, 01 deny, and those
 unfoldable pub plainOf : Family → ℕ → Bool
-plainOf access k = leb k 1
+plainOf access k = leb k 1 || conditionalOf access k
 
 -- types that go on with a word, the GUIDs it announces, and a SID: 05 object allow, 06 object deny
 unfoldable pub objectOf : Family → ℕ → Bool
 objectOf access k = eqb k 5 || eqb k 6
 
--- an object type of any family
+-- an object type of any family, a conditional one of any family
 unfoldable pub objectKind : ℕ → Bool
 objectKind k = objectOf access k
+
+unfoldable pub conditionalKind : ℕ → Bool
+conditionalKind k = conditionalOf access k
 
 -- the types that a list of revision rev may hold: object types under revision 4 only
 unfoldable pub kindOk : Family → ℕ → ℕ → Bool
@@ -99,9 +107,17 @@ entryBytes p =
     ++ (spell 2 (8 + (length (p .middle) + (length (p .sid) + length (p .tail))))
     ++ (spell 4 (p .mask) ++ (p .middle ++ (p .sid ++ p .tail))))
 
--- what may follow the SID in an entry of type k: nothing
-unfoldable pub tailOk : ℕ → ℕ → ℕ → Bool
-tailOk k end size = eqb end size
+-- a conditional entry's expression, where the SID ends within the size, is acceptable
+unfoldable pub expressionOk : List ℕ → Bool
+expressionOk t = cond (conditionalKind (kindOf t) && leb (sidEnd t) (sizeOf t)) (ltb 0 (storedEnd (tailOf t))) true
+
+-- how long that must be which follows the SID in an entry of type k: nothing; or its tokens, padded to a multiple of four (what stands before them is one)
+unfoldable pub tailLong : ℕ → List ℕ → ℕ
+tailLong k tail = cond (conditionalKind k) (upToFour (storedEnd tail)) 0
+
+-- the size is exactly the entry's parts
+unfoldable pub sizeOk : List ℕ → Bool
+sizeOk t = eqb (sidEnd t + tailLong (kindOf t) (tailOf t)) (sizeOf t)
 
 abbrev pub fieldsOf : List ℕ → Entry
 fieldsOf t =
@@ -126,5 +142,6 @@ entryOf f rev t =
     (need (leb (wordOf t) 3) (Bad 4)  -- (e) word
     (need (leb (sidAt t + 8) (sizeOf t)) (Bad 2)  -- (f) GUIDs and eight SID bytes fit in the size
     (need (ltb 0 (sidLenOf t)) (Bad 5)  -- (g) SID
-    (need (tailOk (kindOf t) (sidEnd t) (sizeOf t)) (Bad 2)  -- (h) exact size
-    (Good (fieldsOf t))))))))))
+    (need (expressionOk t) (Bad 15)  -- an acceptable expression
+    (need (sizeOk t) (Bad 2)  -- (h) exact size
+    (Good (fieldsOf t)))))))))))

@@ -4,8 +4,8 @@ use mathlib.Core.Bool.{true}
 use mathlib.Core.List.{List, [], _∷_}
 use Prim.Native.Nat.{ℕ, zero, suc, _+_, _-_, _≤_, _<_}
 use lib.ListN.{length, drop, getD}
-use Rattle.list.specs.Bytes.{le}
-use Rattle.list.specs.Entry.{Family, kindOk, flagsOk, tailOk, kindOf, sizeOf, flagsOf, headOf, wordOf, sidAt, sidLenOf, sidEnd, middleOf, sidOf, tailOf}
+use Rattle.octets.specs.Bytes.{le}
+use Rattle.list.specs.Entry.{Family, kindOk, flagsOk, expressionOk, sizeOk, kindOf, sizeOf, flagsOf, headOf, wordOf, sidAt, sidLenOf, sidEnd, middleOf, sidOf, tailOf}
 use Rattle.list.specs.List.{revOk, revOf, countOf}
 
 -- t begins with a good entry
@@ -18,7 +18,8 @@ pub record Sound (f : Family) (rev : ℕ) (t : List ℕ) : Type 0 where
   pub word : wordOf t ≤ 3
   pub eight : sidAt t + 8 ≤ sizeOf t
   pub sid : 0 < sidLenOf t
-  pub tail : tailOk (kindOf t) (sidEnd t) (sizeOf t) ≡ true
+  pub expression : expressionOk t ≡ true
+  pub tail : sizeOk t ≡ true
 
 -- e is a good entry and nothing more
 pub record Whole (f : Family) (rev : ℕ) (e : List ℕ) : Type 0 where

@@ -4,7 +4,7 @@ use mathlib.Core.List.{List, [], _∷_}
 use mathlib.Core.Bool.{Bool, true, false, cond, _&&_}
 use lib.ListN.{length, getD, take, replicate}
 use lib.Dec.{eqb, leb, ltb}
-use Rattle.list.specs.Bytes.{sameBytes, front}
+use Rattle.octets.specs.Bytes.{sameBytes, front}
 use Rattle.list.specs.declared.identities.Sid.{Sid}
 use Rattle.list.specs.declared.identities.Made.{Made}
 

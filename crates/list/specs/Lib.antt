@@ -1,5 +1,3 @@
-pub mod Order
-pub mod Bytes
 pub mod Identity
 pub mod Entry
 pub mod List

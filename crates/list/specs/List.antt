@@ -5,7 +5,7 @@ use mathlib.Core.Bool.{Bool, cond, _&&_, _||_}
 use mathlib.Core.Option.{Option, none, some}
 use lib.ListN.{length, getD, take, drop}
 use lib.Dec.{eqb, leb}
-use Rattle.list.specs.Bytes.{le, spell}
+use Rattle.octets.specs.Bytes.{le, spell}
 use Rattle.list.specs.Entry.{Family, sizeOf, entryOf}
 use Rattle.list.specs.declared.entries.Checked.{Checked}
 use Rattle.list.specs.declared.entries.Checked.the-variants.{Good, Bad}
@@ -79,7 +79,7 @@ walkOf f rev (suc n) at t done = onGood (entryOf f rev t) at (walkOf f rev n (at
 unfoldable pub finish : ℕ → ℕ → ℕ → Reading
 finish len n end = Done len n end
 
--- a list without its index: the header (1), then entry after entry (2 to 5)
+-- a list without its index: the header (1), then entry after entry (2 to 5, 15)
 unfoldable pub checkOf : Family → List ℕ → Reading
 checkOf f s =
     cond (headerOk s)

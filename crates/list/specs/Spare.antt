@@ -3,7 +3,7 @@ use Prim.Native.Nat.{ℕ, _+_, _-_, _<_}
 use mathlib.Core.Path.{_≡_}
 use mathlib.Core.List.{List, [], _∷_, _++_}
 use lib.ListN.{length, take, drop}
-use Rattle.list.specs.Bytes.{spell}
+use Rattle.octets.specs.Bytes.{spell}
 use Rattle.list.specs.Entry.{Family, sizeOf}
 use Rattle.list.specs.List.{checkOf}
 use Rattle.list.specs.declared.lists.Reading.{Reading}

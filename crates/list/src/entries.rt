@@ -2,11 +2,13 @@
 ghost use mathlib.Core.Path.{_≡_};
 ghost use Prim.Native.Nat.{ℕ, _+_, _≤_};
 ghost use lib.ListN.{length};
-ghost use Rattle.list.specs.Entry.{access, kindOk, objectKind, headOf, sizeOf, wordAfter, entryOf};
-ghost use Rattle.list.specs.Inner.Begins.{Begun};
+ghost use Rattle.list.specs.Entry.{access, plainOf, kindOk, objectKind, conditionalKind, headOf, kindOf, sizeOf, sidEnd, wordAfter, entryOf};
+ghost use Rattle.condition.specs.Kind.{upToFour};
+ghost use lib.Dec.{eqb};
+ghost use Rattle.list.specs.Inner.Begins.{Begun, tailFault};
 use crate::identities::sid_at;
-use crate::numbers::half_at;
-use crate::numbers::word_at;
+use octets::half_in;
+use octets::word_in;
 
 // The fields of a good entry; `sid` is where its SID begins.
 pub struct Entry {
@@ -35,11 +37,31 @@ pub fn is_object(kind: u8) -> bool
     kind == 6
 }
 
+// Whether `kind` is a conditional type.
+pub fn is_conditional(kind: u8) -> bool
+    ensures { λ r. ⌜ r ≡ conditionalKind kind ⌝ }
+{
+    if kind == 9 {
+        return true;
+    }
+    kind == 10
+}
+
+// Whether `kind` goes on with a SID.
+fn is_plain(kind: u8) -> bool
+    ensures { λ r. ⌜ r ≡ plainOf access kind ⌝ }
+{
+    if kind <= 1 {
+        return true;
+    }
+    is_conditional(kind)
+}
+
 // Whether a list of revision `rev` may hold an entry of type `kind`.
 fn kind_ok(kind: u8, rev: u8) -> bool
     ensures { λ r. ⌜ r ≡ kindOk access kind rev ⌝ }
 {
-    if kind <= 1 {
+    if is_plain(kind) {
         return true;
     }
     if rev != 4 {
@@ -60,7 +82,36 @@ fn object_word(t: &[u8], head: usize) -> u32
     requires { ⌜ head ≤ length (now t) ⌝ }
     ensures { λ r. ⌜ r ≡ wordAfter head (now (t .entry)) ⌝ }
 {
-    if head == 12 { word_at(t, 8) } else { 0 }
+    if head == 12 { word_in(t, 8) } else { 0 }
+}
+
+// Whether so many bytes of tokens, padded to a multiple of four, are so long.
+fn is_padded(tokens: usize, long: usize) -> bool
+    requires { ⌜ tokens ≤ long ⌝ }
+    ensures { λ r. ⌜ r ≡ eqb (upToFour tokens) long ⌝ }
+{
+    if long % 4 != 0 {
+        return false;
+    }
+    long - tokens < 4
+}
+
+// The fault of what follows the SID, which ends at `end`: 15, 2, or 0 where there is none.
+fn tail_fault(t: &[u8], kind: u8, end: usize, size: usize) -> u8
+    requires { ⌜ (kind ≡ kindOf (now t)) × (end ≡ sidEnd (now t)) × (size ≡ sizeOf (now t)) × (size ≤ length (now t)) ⌝ }
+    ensures { λ r. ⌜ r ≡ tailFault (now (t .entry)) ⌝ }
+{
+    if !is_conditional(kind) {
+        return if end == size { 0 } else { 2 };
+    }
+    if size < end {
+        return 2;
+    }
+    let tokens = condition::check(&t[end..size]);
+    if tokens == 0 {
+        return 15;
+    }
+    if is_padded(tokens, size - end) { 0 } else { 2 }
 }
 
 // The rest of the check, (d) to (h), of an entry of `size` bytes that passes (a) to (c).
@@ -85,14 +136,15 @@ fn body_of(t: &[u8], size: usize) -> Checked
     if sid_len == 0 {
         return Checked::Bad(5);
     }
-    if sid + sid_len != size {
-        return Checked::Bad(2);
+    let fault = tail_fault(t, kind, sid + sid_len, size);
+    if fault != 0 {
+        return Checked::Bad(fault);
     }
     Checked::Good(Entry {
         kind,
         flags: t[1],
         size,
-        mask: word_at(t, 4),
+        mask: word_in(t, 4),
         word,
         sid,
         sid_len,
@@ -106,7 +158,7 @@ pub fn entry_of(t: &[u8], rev: u8) -> Checked
     if t.len() < 4 {
         return Checked::Bad(2);
     }
-    let size = half_at(t, 2) as usize;
+    let size = half_in(t, 2) as usize;
     if t.len() < size {
         return Checked::Bad(2);
     }

@@ -2,11 +2,11 @@
 ghost use mathlib.Core.Path.{_≡_};
 ghost use Prim.Native.Nat.{_+_, _≤_};
 ghost use lib.ListN.{length, drop};
-ghost use Rattle.list.specs.Bytes.{sameBytes, guidAt};
+ghost use Rattle.octets.specs.Bytes.{sameBytes, guidAt};
 ghost use Rattle.list.specs.Identity.{sidLen, wholeSid, isSid, placeholderOf, identityOf, bytesOf, madeOf, placeholderSid};
-use crate::numbers::byte_in;
-use crate::numbers::put;
-use crate::numbers::same_bytes;
+use octets::byte_in;
+use octets::put;
+use octets::same_bytes;
 
 // An identity: its bytes, zeros up to 68, and how many bytes it has.
 pub struct Sid {

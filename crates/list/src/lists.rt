@@ -9,7 +9,7 @@ ghost use Rattle.list.specs.Answer.{readingValues, checkValues, readValu
 ghost use Rattle.list.specs.Good.{Listed};
 use crate::entries::Checked;
 use crate::entries::entry_of;
-use crate::numbers::half_at;
+use octets::half_in;
 
 // What reading a list finds: its length, its count and where its entries end, or a refusal's number and offset.
 pub enum Reading {
@@ -39,10 +39,10 @@ fn header_ok(list: &[u8]) -> bool
     if list[1] != 0 {
         return false;
     }
-    if half_at(list, 2) as usize != list.len() {
+    if half_in(list, 2) as usize != list.len() {
         return false;
     }
-    half_at(list, 6) == 0
+    half_in(list, 6) == 0
 }
 
 // The entry at an offset of a list.
@@ -88,7 +88,7 @@ pub fn check(list: &[u8]) -> Reading
     if !header_ok(list) {
         return Reading::Refused { number: 1, at: 0 };
     }
-    walk(list, list[0], half_at(list, 4))
+    walk(list, list[0], half_in(list, 4))
 }
 
 // The offsets of the entries of a good list, on the front of the row.
@@ -101,7 +101,7 @@ fn fill(list: &[u8], count: u16, row: &mut [u16])
     let mut i: usize = 0;
     while i < n {
         row[i] = at as u16;
-        at = at + half_at(list, at + 2) as usize;
+        at = at + half_in(list, at + 2) as usize;
         i = i + 1;
     }
 }

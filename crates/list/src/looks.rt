@@ -5,9 +5,9 @@ ghost use Rattle.list.specs.Identity.{sidLen, placeholderOf};
 ghost use Rattle.list.specs.Look.{lookOf};
 use crate::entries::is_object;
 use crate::identities::placeholder_of;
-use crate::numbers::byte_in;
-use crate::numbers::half_in;
-use crate::numbers::word_in;
+use octets::byte_in;
+use octets::half_in;
+use octets::word_in;
 
 // An entry's fields as they lie there; `sid` is where its SID begins.
 pub struct Look {

@@ -2,7 +2,7 @@
 use mathlib.Core.Path.{_≡_, sym, _∙_}
 use denote.Ref.{now}
 use Rattle.tree.proofs.Numbers.{promised-same}
-use Rattle.list.proofs.Determinacy.{Determines, OneResult}
+use Rattle.octets.proofs.Determinacy.{Determines, OneResult}
 use Rattle.script.proofs.records.step.Kinds as step
 use Rattle.script.proofs.records.step.Reads as step-reads
 use Rattle.script.proofs.runs.feed.Kinds as feed

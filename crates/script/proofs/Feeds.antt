@@ -7,7 +7,7 @@ use native.Mathlib.Nat.{add-zero}
 use native.Mathlib.Omega.{arith}
 use lib.ListN.{length, take, drop, length-drop, drop-of-length-le}
 use lib.Seq.{drop-drop, take-all}
-use Rattle.list.specs.Bytes.{part}
+use Rattle.octets.specs.Bytes.{part}
 use Rattle.script.specs.Record.{recordNumber, recordAsks, recordSize, stepOf}
 use Rattle.script.specs.Fold.{Run, past, carried, runOf}
 use Rattle.script.specs.Inner.Runs.{lengthIf, roomIf, isBad}

@@ -7,9 +7,9 @@ use native.Mathlib.Nat.{add-assoc, zero-add}
 use native.Mathlib.Omega.{arith}
 use lib.ListN.{length, drop, length-drop}
 use lib.Seq.{drop-drop, drop-append-le, take-append-le}
-use Rattle.list.specs.Bytes.{Bytes}
-use Rattle.list.proofs.Little.{bytes-drop}
-use Rattle.list.proofs.Tests.{off}
+use Rattle.octets.specs.Bytes.{Bytes}
+use Rattle.octets.proofs.Little.{bytes-drop}
+use Rattle.octets.proofs.Tests.{off}
 use Rattle.script.specs.Record.{recordNumber, recordAsks, recordSize, stepOf}
 use Rattle.script.specs.Fold.{Run, past, carried, onStep, runBy, runOf, Stage, ahead, onPiece, inPieces, allPieces}
 use Rattle.script.specs.declared.records.Found.{Found}

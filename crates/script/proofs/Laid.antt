@@ -6,10 +6,10 @@ use native.Mathlib.Nat.{le-refl}
 use native.Mathlib.Omega.{arith}
 use lib.ListN.{length, take, drop, set, length-set, length-append, length-drop, drop-of-length-le, take-append-drop}
 use lib.Seq.{drop-cons, drop-length, getD-set-same, drop-set-lt, take-all, take-nil, drop-nil}
-use Rattle.list.specs.Bytes.{front, putOn}
-use Rattle.list.proofs.Places.{split}
-use Rattle.list.proofs.Tests.{tests}
-use Rattle.list.proofs.Writes.{put-all}
+use Rattle.octets.specs.Bytes.{front, putOn}
+use Rattle.octets.proofs.Places.{split}
+use Rattle.octets.proofs.Tests.{tests}
+use Rattle.octets.proofs.Writes.{put-all}
 use Rattle.script.specs.Text.{digits, decimal}
 use Rattle.script.specs.Inner.Laying.{laidAt}
 

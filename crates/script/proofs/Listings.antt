@@ -9,14 +9,14 @@ use native.Mathlib.Numerals.{add-one}
 use native.Mathlib.Omega.{arith}
 use lib.ListN.{length, getD}
 use Rattle.list.specs.List.{MaybeList}
-use Rattle.list.proofs.Tests.{tests}
+use Rattle.octets.proofs.Tests.{tests}
 use Rattle.tree.specs.Shown.{listsIn}
 use Rattle.tree.specs.declared.Answer.{Answer}
 use Rattle.tree.specs.declared.Answer.the-variants.{Done, Refused}
 use Rattle.tree.specs.Held.{hasList, bytesIn, held}
 use Rattle.tree.specs.Room.{objects, slot}
 use Rattle.tree.specs.Formed.{formed}
-use Rattle.list.specs.Order.{need}
+use Rattle.octets.specs.Order.{need}
 use Rattle.tree.proofs.Numbers.{Numbered, promised, numbered-need, numbered-copied}
 use Rattle.tree.specs.Calls.{Promised, toldAs, onObject, listBytes, copied, listTo, countsTo}
 use Rattle.tree.proofs.Tested.{head-says, formed-parts, bytes-most}

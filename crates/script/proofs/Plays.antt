@@ -11,16 +11,16 @@ use lib.Seq.{take-all}
 use lib.Dec.{eqb, leb}
 use borrow.Author.Tests.{leb-true, eq-eqb, ne-eqb}
 use Rattle.list.specs.List.{MaybeList}
-use Rattle.list.proofs.Places.{split}
-use Rattle.list.proofs.Tests.{both-true}
-use Rattle.list.proofs.Writes.{front-all}
+use Rattle.octets.proofs.Places.{split}
+use Rattle.octets.proofs.Tests.{both-true}
+use Rattle.octets.proofs.Writes.{front-all}
 use Rattle.inherit.specs.Compute.{ruleOk}
 use Rattle.tree.specs.Model.{Object, Tree, listOf, objectsOf, begun as begun-tree, after, accepted, shortIf, limitsOk}
 use Rattle.tree.specs.Shown.{Request, settingsFrom, meant, listsIn, callOn, playedOn}
 use Rattle.tree.specs.declared.Answer.{Answer}
 use Rattle.tree.specs.Room.{emptyRoom}
 use Rattle.tree.specs.Formed.{formed}
-use Rattle.list.specs.Order.{need}
+use Rattle.octets.specs.Order.{need}
 use Rattle.tree.specs.Calls.{Promised, answerValues, readableTo, startOk, startTo}
 use Rattle.tree.proofs.Lays.{length-settings}
 use Rattle.tree.proofs.Modelled.{objects-length}

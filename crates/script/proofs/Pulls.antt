@@ -5,9 +5,9 @@ use Prim.Native.Nat.{ℕ, _+_, _-_, _≤_, _<_}
 use native.Mathlib.Omega.{arith}
 use lib.ListN.{length, take, drop, getD, set, length-take, length-drop}
 use lib.Seq.{length-take-le, take-all, getD-append-add, getD-drop}
-use Rattle.list.specs.Bytes.{part, front}
-use Rattle.list.proofs.Places.{length-part, part-of-take}
-use Rattle.list.proofs.Writes.{copy-more}
+use Rattle.octets.specs.Bytes.{part, front}
+use Rattle.octets.proofs.Places.{length-part, part-of-take}
+use Rattle.octets.proofs.Writes.{copy-more}
 
 -- d with the n bytes at `from` on the front
 abbrev pub pulled : List ℕ → ℕ → ℕ → List ℕ

@@ -8,9 +8,9 @@ use lib.ListN.{length, getD, drop, length-append, List·getD-append}
 use lib.Dec.{eqb, leb}
 use borrow.Author.Tests.{le-leb, lt-leb}
 use native.Mathlib.Decide.{ℕ-discrete}
-use Rattle.list.specs.Bytes.{Bytes}
-use Rattle.list.proofs.Little.{bytes-drop, le-lt, le-drop-append}
-use Rattle.list.proofs.Places.{split}
+use Rattle.octets.specs.Bytes.{Bytes}
+use Rattle.octets.proofs.Little.{bytes-drop, le-lt, le-drop-append}
+use Rattle.octets.proofs.Places.{split}
 use Rattle.script.specs.Record.{recordNumber, nameEnd, namesEnd, listEnd, flagOk, recordSize, formOk, stepOf}
 use Rattle.script.specs.declared.records.Found.the-variants.{Cut, Bad, Record}
 use Rattle.script.proofs.Tables.{size-1, size-2, size-3, size-4, size-5, form-1, form-2, form-3, form-4, form-5}

@@ -7,7 +7,7 @@ use lib.ListN.{getD, drop}
 use lib.Dec.{eqb}
 use borrow.Author.Tests.{ne-eqb}
 use Rattle.list.specs.List.{MaybeList, lent}
-use Rattle.list.specs.Bytes.{le, part, guidAt}
+use Rattle.octets.specs.Bytes.{le, part, guidAt}
 use Rattle.tree.specs.Shown.{change, undo}
 use Rattle.tree.specs.Calls.{list, mark, owners, add, alter}
 use Rattle.script.specs.Record.{recordNumber, nameIn, nameEnd, namesEnd, listIn, listEnd, flagOk, flag, parentNamed, recordSize, formOk, newIn, recordAsks}

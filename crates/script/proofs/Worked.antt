@@ -7,8 +7,8 @@ use Prim.Native.Nat.{ℕ}
 use native.Mathlib.Omega.{arith}
 use lib.ListN.{length, getD, drop, replicate}
 use Rattle.list.specs.List.{MaybeList}
-use Rattle.list.specs.Bytes.{le, part, guidAt}
-use Rattle.list.specs.Order.{need}
+use Rattle.octets.specs.Bytes.{le, part, guidAt}
+use Rattle.octets.specs.Order.{need}
 use Rattle.inherit.proofs.Worked.{system, parentWith}
 use Rattle.tree.specs.Shown.{change, undo, listsIn}
 use Rattle.tree.specs.Model.{listOf, objectsOf}

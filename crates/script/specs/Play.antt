@@ -6,14 +6,14 @@ use mathlib.Core.Option.{none}
 use lib.ListN.{length, getD, drop, replicate}
 use lib.Dec.{eqb, leb}
 use Rattle.list.specs.List.{MaybeList}
-use Rattle.list.specs.Bytes.{le}
+use Rattle.octets.specs.Bytes.{le}
 use Rattle.inherit.specs.declared.Mapping.{Mapping}
 use Rattle.tree.specs.Model.{Settings}
 use Rattle.tree.specs.Shown.{listsIn}
 use Rattle.tree.specs.declared.Answer.{Answer}
 use Rattle.tree.specs.declared.Answer.the-variants.{Done}
 use Rattle.tree.specs.Formed.{formed}
-use Rattle.list.specs.Order.{need}
+use Rattle.octets.specs.Order.{need}
 use Rattle.tree.specs.Calls.{Outcome, copied, refuse, startTo}
 use Rattle.script.specs.Fold.{Run, runOf, Stage}
 use Rattle.script.specs.Text.{listing, badLine}

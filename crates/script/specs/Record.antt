@@ -5,7 +5,7 @@ use mathlib.Core.Bool.{Bool, true, cond, not, _&&_}
 use lib.ListN.{length, getD, drop}
 use lib.Dec.{eqb, leb}
 use Rattle.list.specs.List.{MaybeList, lent}
-use Rattle.list.specs.Bytes.{le, part, guidAt}
+use Rattle.octets.specs.Bytes.{le, part, guidAt}
 use Rattle.tree.specs.Shown.{Request, change, undo}
 use Rattle.tree.specs.Calls.{list, mark, owners, New, nobody, ChangeGiven, add, alter}
 use Rattle.script.specs.declared.records.Found.{Found}

@@ -5,7 +5,7 @@ use mathlib.Core.Bool.{Bool, true, false, cond}
 use mathlib.Core.Option.{none, some}
 use lib.ListN.{length, getD, take, drop}
 use lib.Dec.{ltb}
-use Rattle.list.specs.Bytes.{putOn}
+use Rattle.octets.specs.Bytes.{putOn}
 use Rattle.list.specs.List.{countOf, MaybeList}
 
 -- n in decimal, with no zeros in front: all digits but the last, if there are more, then the last

@@ -4,8 +4,8 @@ ghost use lib.ListN.{length};
 ghost use Rattle.tree.specs.Calls.{Promised};
 ghost use Rattle.script.specs.Play.{scriptHeadOk, beginTo, playTo};
 use inherit::Mapping;
-use list::byte_in;
-use list::half_in;
+use octets::byte_in;
+use octets::half_in;
 use tree::Answer;
 
 mod records;

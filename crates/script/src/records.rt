@@ -5,10 +5,10 @@ ghost use lib.ListN.{getD};
 ghost use Rattle.tree.specs.Shown.{undo, callOn};
 ghost use Rattle.tree.specs.Calls.{Promised, list as Edit·list, owners as Edit·owners, objectFor, addTo, alterTo};
 ghost use Rattle.script.specs.Record.{nameIn, nameEnd, listIn, listEnd, flagOk, flag as Record·flag, parentNamed, recordSize, formOk, newIn, recordAsks, stepOf};
-use list::byte_in;
 use list::guid_at;
-use list::half_in;
-use list::part_of;
+use octets::byte_in;
+use octets::half_in;
+use octets::part_of;
 use tree::Answer;
 
 // A record at the front of a slice: some of its bytes are missing, its form is bad, or it is whole: how many bytes it has, and what it

@@ -3,14 +3,14 @@ ghost use mathlib.Core.Path.{_≡_};
 ghost use mathlib.Core.Bool.{true, false};
 ghost use Prim.Native.Nat.{_+_, _≤_};
 ghost use lib.ListN.{length, take, drop};
-ghost use Rattle.list.specs.Bytes.{front, part};
+ghost use Rattle.octets.specs.Bytes.{front, part};
 ghost use Rattle.script.specs.Record.{stepOf};
 ghost use Rattle.script.specs.Fold.{carried, runOf};
 ghost use Rattle.script.specs.Inner.Runs.{lengthIf, roomIf, isBad};
 use crate::records::Found;
 use crate::records::carry_out;
 use crate::records::step;
-use list::part_of;
+use octets::part_of;
 
 // How many bytes of a slice were whole records, and whether a bad one comes next.
 pub struct Run {

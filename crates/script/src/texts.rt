@@ -23,7 +23,7 @@ fn put_bytes(out: &mut [u8], at: usize, s: &[u8]) -> usize
 {
     let end = at + s.len();
     if at < out.len() {
-        list::put(&mut out[at..], s);
+        octets::put(&mut out[at..], s);
     }
     end
 }

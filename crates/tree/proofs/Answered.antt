@@ -9,14 +9,14 @@ use native.Mathlib.Omega.{arith}
 use lib.ListN.{length, set, replicate, length-append, length-take, length-drop, length-replicate}
 use lib.Dec.{ltb}
 use borrow.Author.Tests.{ltb-true, leb-true, le-leb, lt-leb, ne-eqb}
-use Rattle.list.specs.Bytes.{part, putAt, front}
+use Rattle.octets.specs.Bytes.{part, putAt, front}
 use Rattle.list.specs.Entry.{access}
 use Rattle.list.specs.List.{checkOf, MaybeList}
 use Rattle.list.specs.declared.lists.Reading.{Reading}
 use Rattle.list.specs.declared.lists.Reading.the-variants.{Done as Read, Refused as Unread}
 use Rattle.list.proofs.Answers.{ListNumber, list-number}
-use Rattle.list.proofs.Places.{length-part}
-use Rattle.list.proofs.Tests.{both-true, le-or, off}
+use Rattle.octets.proofs.Places.{length-part}
+use Rattle.octets.proofs.Tests.{both-true, le-or, off}
 use Rattle.inherit.specs.Compute.{ruleOk}
 use Rattle.tree.specs.Model.{Settings, shortIf, limitsOk}
 use Rattle.tree.specs.declared.Answer.{Answer}
@@ -24,7 +24,7 @@ use Rattle.tree.specs.Held.{isDone, idIn, ownerOf, groupOf}
 use Rattle.tree.specs.Room.{objectLimit, objects, ownData, roomFor, roomOf, settingsFor, emptyRoom}
 use Rattle.tree.specs.Formed.{placedIn, formed}
 use Rattle.tree.specs.Inner.Heads.{Head}
-use Rattle.list.specs.Order.{need}
+use Rattle.octets.specs.Order.{need}
 use Rattle.tree.specs.Calls.{Outcome, refuse, onReadingTo, readableTo, onObject, toldAs, startOk, listBytes, copied, dataOf}
 use Rattle.tree.specs.Inner.Faults.{objectFault, addFault, faultBy, faultOf}
 use Rattle.tree.proofs.Replay.{reads}

@@ -11,8 +11,8 @@ use native.Mathlib.Numerals.{one-add}
 use native.Mathlib.Omega.{arith}
 use lib.Dec.{eqb, ltb}
 use borrow.Author.Tests.{eq-eqb, ne-eqb, lt-ltb, eqb-true, ltb-true}
-use Rattle.list.proofs.Tests.{both-true}
-use Rattle.list.proofs.Sids.{same-true, same-yes}
+use Rattle.octets.proofs.Tests.{both-true}
+use Rattle.octets.proofs.Same.{same-true, same-yes}
 use Rattle.tree.specs.General.{every}
 use Rattle.tree.specs.Held.{blockOk, alike, parentByteIn, kindByte, typeOf}
 use Rattle.tree.specs.Room.{stepTag, stepObject, stepData}

@@ -5,9 +5,9 @@ use Prim.Native.Nat.{ℕ, _+_, _*_, _≤_, _<_}
 use native.Mathlib.Omega.{arith}
 use lib.ListN.{length, getD, drop, List·getD-append}
 use lib.Seq.{getD-take, length-take-le, take-at}
-use Rattle.list.specs.Bytes.{part, front}
-use Rattle.list.proofs.Places.{part-of-take}
-use Rattle.list.proofs.Writes.{length-front}
+use Rattle.octets.specs.Bytes.{part, front}
+use Rattle.octets.proofs.Places.{part-of-take}
+use Rattle.octets.proofs.Writes.{length-front}
 use Rattle.tree.specs.General.{tab}
 use Rattle.tree.specs.Room.{objectLimit, stepLimit, ownAt, slotAt, stepsAt, roomFor, settings, ownData, slot, step, area}
 use Rattle.tree.specs.Inner.Heads.{Head}

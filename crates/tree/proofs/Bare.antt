@@ -9,11 +9,11 @@ use lib.ListN.{length, set}
 use lib.Dec.{leb, ltb}
 use borrow.Author.Tests.{le-leb, leb-true}
 use Rattle.list.specs.List.{MaybeList}
-use Rattle.list.specs.Order.{need}
-use Rattle.list.specs.Bytes.{front}
+use Rattle.octets.specs.Order.{need}
+use Rattle.octets.specs.Bytes.{front}
 use Rattle.list.specs.Entry.{access}
 use Rattle.list.specs.Answer.{Values, done, refused}
-use Rattle.list.proofs.Tests.{off}
+use Rattle.octets.proofs.Tests.{off}
 use Rattle.list.specs.Spare.{bare, Sized}
 use Rattle.list.proofs.Spare.{short-sized, bare-shorter}
 use Rattle.inherit.specs.Compute.{readable, ordinary}

@@ -11,8 +11,8 @@ use native.Mathlib.Omega.{arith}
 use lib.ListN.{length, getD, set, length-set}
 use lib.Seq.{getD-set-same}
 use borrow.Author.Tests.{eq-eqb, ne-eqb}
-use Rattle.list.specs.Bytes.{part, putAt}
-use Rattle.list.proofs.Places.{split, length-part, length-put, part-put-before, part-put-after, part-put-on, put-whole, byte-same}
+use Rattle.octets.specs.Bytes.{part, putAt}
+use Rattle.octets.proofs.Places.{split, length-part, length-put, part-put-before, part-put-after, part-put-on, put-whole, byte-same}
 use Rattle.tree.specs.General.{tab}
 use Rattle.tree.specs.Held.{held, slotOk}
 use Rattle.tree.specs.Room.{objectLimit, stepLimit, objects, keptSteps, ownAt, stepsAt, settings, ownData, slot, step, stepObject, stepData}

@@ -9,8 +9,8 @@ use lib.Seq.{take-at, take-all, drop-append-add, length-take-le}
 use lib.Dec.{leb}
 use borrow.Author.Tests.{leb-true, le-leb}
 use Rattle.list.specs.List.{MaybeList}
-use Rattle.list.specs.Bytes.{part, guidAt}
-use Rattle.list.proofs.Tests.{both-true}
+use Rattle.octets.specs.Bytes.{part, guidAt}
+use Rattle.octets.proofs.Tests.{both-true}
 use Rattle.inherit.specs.Compute.{ordinary}
 use Rattle.tree.specs.Model.{Object, parentByte, shortIf}
 use Rattle.tree.specs.Held.{held, slotFor, slotOk, idIn, idFor, idOk, parentByteIn, kindByte, markByte, typeOf, ownerOf, groupOf, ownSlot, ownList}

@@ -9,9 +9,9 @@ use native.Mathlib.Omega.{arith}
 use lib.ListN.{length}
 use borrow.Author.Tests.{lt-ltb, le-ltb}
 use Rattle.list.specs.List.{MaybeList}
-use Rattle.list.specs.Bytes.{part, putAt, putOn}
-use Rattle.list.proofs.Places.{part-most, put-whole}
-use Rattle.list.proofs.Writes.{put-all}
+use Rattle.octets.specs.Bytes.{part, putAt, putOn}
+use Rattle.octets.proofs.Places.{part-most, put-whole}
+use Rattle.octets.proofs.Writes.{put-all}
 use Rattle.inherit.specs.Compute.{ordinary}
 use Rattle.tree.specs.Model.{Object, parentByte, shortIf}
 use Rattle.tree.specs.declared.Answer.{Answer}
@@ -21,7 +21,7 @@ use Rattle.tree.specs.Held.{held, parentIn, blockFor}
 use Rattle.tree.specs.Room.{objectLimit, objects, keptSteps, ownAt, ownData, slot, step, stepObject, area}
 use Rattle.tree.specs.Formed.{standing, formed}
 use Rattle.tree.specs.Inner.Heads.{Head}
-use Rattle.list.specs.Order.{need}
+use Rattle.octets.specs.Order.{need}
 use Rattle.tree.specs.Calls.{Promised, Outcome, refuse, readableTo, toldAs, stepGone, reworkedWith, changed, latest, stepTakenBack, changeEnds, undoEnds, changeTo, Put, Edit}
 use Rattle.tree.specs.Calls.{nobody, list, mark, owners, editAt, editBytes, editPut, addPut, tested, addTo, alterTo, undoTo}
 use Rattle.tree.specs.Inner.Faults.{objectFault, addFault, faultOf}

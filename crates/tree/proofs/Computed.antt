@@ -8,13 +8,13 @@ use native.Mathlib.Omega.{arith}
 use lib.ListN.{length}
 use lib.Dec.{eqb}
 use borrow.Author.Tests.{le-leb, eqb-true}
-use Rattle.list.specs.Bytes.{part}
+use Rattle.octets.specs.Bytes.{part}
 use Rattle.list.specs.Entry.{access}
 use Rattle.list.specs.List.{checkOf, MaybeList, lent}
 use Rattle.list.specs.declared.lists.Reading.{Reading}
 use Rattle.list.specs.declared.lists.Reading.the-variants.{Done, Refused as Unread}
-use Rattle.list.proofs.Places.{split}
-use Rattle.list.proofs.Tests.{off}
+use Rattle.octets.proofs.Places.{split}
+use Rattle.octets.proofs.Tests.{off}
 use Rattle.list.proofs.Told.{told}
 use Rattle.list.specs.Answer.{Values, done, refused}
 use Rattle.inherit.specs.Asked.{typesOk}

@@ -9,7 +9,7 @@ use native.Mathlib.Omega.{arith}
 use lib.ListN.{length}
 use lib.Dec.{leb}
 use Rattle.list.specs.List.{MaybeList}
-use Rattle.list.specs.Order.{need}
+use Rattle.octets.specs.Order.{need}
 use Rattle.list.specs.Answer.{Values, done, refused}
 use Rattle.inherit.specs.Spare.{NoSpare}
 use Rattle.inherit.specs.Said.{NoGeneric}

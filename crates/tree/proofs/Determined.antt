@@ -1,7 +1,7 @@
 -- Each public call's contract allows one answer only, and one content of the room or buffer that it is lent to change.
 use mathlib.Core.Path.{_≡_, sym, _∙_}
 use denote.Ref.{now}
-use Rattle.list.proofs.Determinacy.{Determines, OneResult}
+use Rattle.octets.proofs.Determinacy.{Determines, OneResult}
 use Rattle.tree.proofs.Numbers.{says-same, promised-same}
 use Rattle.tree.proofs.room.Kinds as room
 use Rattle.tree.proofs.room.Reads as room-reads

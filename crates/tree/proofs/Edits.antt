@@ -7,9 +7,9 @@ use native.Mathlib.Omega.{arith}
 use lib.ListN.{length, getD, length-append}
 use lib.Seq.{getD-set-same}
 use Rattle.list.specs.List.{MaybeList}
-use Rattle.list.specs.Bytes.{part, putAt}
-use Rattle.list.proofs.Places.{length-put, part-put-same, part-put-before, part-put-after, part-put-in, put-one, byte-same}
-use Rattle.list.proofs.Tests.{both-true}
+use Rattle.octets.specs.Bytes.{part, putAt}
+use Rattle.octets.proofs.Places.{length-put, part-put-same, part-put-before, part-put-after, part-put-in, put-one, byte-same}
+use Rattle.octets.proofs.Tests.{both-true}
 use Rattle.inherit.specs.Compute.{ordinary}
 use Rattle.tree.specs.Model.{shortIf}
 use Rattle.tree.specs.Held.{slotFor, idFor, parentByteIn, kindByte, markByte, typeOf, ownerOf, groupOf, ownSlot, ownList, blockOk, yes}

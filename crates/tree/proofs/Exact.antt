@@ -11,10 +11,10 @@ use lib.ListN.{length, getD, take, set}
 use lib.Dec.{eqb, ltb}
 use borrow.Author.Tests.{lt-ltb}
 use Rattle.list.specs.List.{MaybeList}
-use Rattle.list.specs.Order.{need}
+use Rattle.octets.specs.Order.{need}
 use Rattle.list.specs.Answer.{Values, done, refused}
-use Rattle.list.proofs.Places.{length-part}
-use Rattle.list.proofs.Tests.{off}
+use Rattle.octets.proofs.Places.{length-part}
+use Rattle.octets.proofs.Tests.{off}
 use Rattle.tree.specs.declared.Answer.{Answer}
 use Rattle.tree.specs.declared.Answer.the-variants.{Done, Refused}
 use Rattle.tree.specs.General.{isSome, tab}

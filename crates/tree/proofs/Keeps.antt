@@ -6,8 +6,8 @@ use Prim.Native.Nat.{ℕ, _≤_, _<_}
 use native.Mathlib.Nat.{zero-add}
 use native.Mathlib.Omega.{arith}
 use lib.ListN.{length, getD}
-use Rattle.list.specs.Bytes.{front}
-use Rattle.list.proofs.Tests.{both-true}
+use Rattle.octets.specs.Bytes.{front}
+use Rattle.octets.proofs.Tests.{both-true}
 use Rattle.tree.specs.General.{tab}
 use Rattle.tree.specs.Held.{held, blockOk, slotOk, parentOf}
 use Rattle.tree.specs.Room.{objectLimit, stepLimit, objects, keptSteps, roomFor, settings, ownData, slot, step, area}

@@ -5,8 +5,8 @@ use Prim.Native.Nat.{ℕ, _+_, _-_, _*_, _≤_, _<_, min}
 use native.Mathlib.Omega.{arith}
 use lib.ListN.{length, take, set}
 use lib.Seq.{length-take-le}
-use Rattle.list.specs.Bytes.{part, putAt}
-use Rattle.list.proofs.Places.{length-part, part-most, part-of-take, put-whole}
+use Rattle.octets.specs.Bytes.{part, putAt}
+use Rattle.octets.proofs.Places.{length-part, part-most, part-of-take, put-whole}
 use Rattle.tree.specs.Room.{objectLimit, stepLimit, keptSteps, stepsAt, roomFor, ownData, area}
 use Rattle.tree.specs.Calls.{stepKept, stepGone}
 use Rattle.tree.proofs.Areas.{area-byte, area-own}

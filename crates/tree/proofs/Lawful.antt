@@ -8,7 +8,7 @@ use native.Mathlib.Omega.{arith}
 use lib.ListN.{length, getD, set, length-append}
 use lib.Seq.{take-at, set-set, set-getD}
 use lib.Dec.{ltb}
-use Rattle.list.specs.Bytes.{putAt}
+use Rattle.octets.specs.Bytes.{putAt}
 use Rattle.tree.specs.Held.{blockFor}
 use Rattle.tree.specs.Calls.{editAt, editBytes, objectFor, ChangeGiven, add, alter}
 use Rattle.tree.proofs.History.{Lawful}

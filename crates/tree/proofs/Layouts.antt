@@ -7,7 +7,7 @@ use mathlib.Core.Option.{Option, none, some}
 use Prim.Native.Nat.{ℕ}
 use lib.ListN.{take, set, replicate}
 use Rattle.list.specs.List.{MaybeList}
-use Rattle.list.specs.Bytes.{putAt}
+use Rattle.octets.specs.Bytes.{putAt}
 use Rattle.list.specs.Identity.{creator}
 use Rattle.inherit.proofs.Worked.{mapping, system, parentWith, inherited, listed}
 use Rattle.tree.specs.General.{every, tab}
@@ -15,7 +15,7 @@ use Rattle.tree.specs.Model.{Settings, Object, shortIf, limitsOk}
 use Rattle.tree.specs.Held.{bytesIn, slotOk, idIn, idOk, blockOk, alike}
 use Rattle.tree.specs.Room.{settings, ownData, slot, step, emptyRoom}
 use Rattle.tree.specs.Formed.{countsOk, settingsOk, placedIn, objectOk, againOk, stepOk, stepsOk, formed}
-use Rattle.list.specs.Order.{need}
+use Rattle.octets.specs.Order.{need}
 use Rattle.tree.specs.declared.Answer.the-variants.{Done, Refused}
 use Rattle.tree.specs.Work as Work
 use Rattle.tree.specs.Work.{aboveIn, rework, reworked}

@@ -10,9 +10,9 @@ use borrow.Author.Tests.{leb-true, le-leb}
 use lib.ListN.{length, set, replicate, length-append, length-replicate, replicate-append-replicate}
 use lib.Seq.{take-all}
 use Rattle.list.specs.List.{MaybeList}
-use Rattle.list.specs.Bytes.{putAt, spell, guidAt}
-use Rattle.list.proofs.Little.{length-spell}
-use Rattle.list.proofs.Places.{put-one, put-snoc, put-append, put-whole, length-put}
+use Rattle.octets.specs.Bytes.{putAt, spell, guidAt}
+use Rattle.octets.proofs.Little.{length-spell}
+use Rattle.octets.proofs.Places.{put-one, put-snoc, put-append, put-whole, length-put}
 use Rattle.inherit.specs.declared.Mapping.{Mapping}
 use Rattle.tree.specs.Model.{parentByte, shortIf}
 use Rattle.tree.specs.Held.{slotFor, idFor, parentIn, blockFor, yes}

@@ -12,9 +12,9 @@ use lib.Seq.{getD-at, getD-set-same, getD-set-other}
 use lib.Dec.{eqb, ltb, leb}
 use borrow.Author.Tests.{ltb-true, eqb-false, le-leb, leb-true}
 use Rattle.list.specs.List.{MaybeList}
-use Rattle.list.specs.Bytes.{putAt}
-use Rattle.list.proofs.Places.{split}
-use Rattle.list.proofs.Tests.{both-true}
+use Rattle.octets.specs.Bytes.{putAt}
+use Rattle.octets.proofs.Places.{split}
+use Rattle.octets.proofs.Tests.{both-true}
 use Rattle.list.specs.Answer.{Values, done, refused}
 use Rattle.inherit.specs.Branch.{Result, absent, holds, resultOf}
 use Rattle.inherit.specs.Compute.{ordinary, ruleOk, sizeFor, fits, revFor, withRoom, bytesFor}

@@ -10,8 +10,8 @@ use lib.ListN.{getD, take, set}
 use lib.Dec.{ltb}
 use borrow.Author.Tests.{lt-ltb, le-ltb}
 use Rattle.list.specs.List.{MaybeList}
-use Rattle.list.specs.Bytes.{putAt}
-use Rattle.list.proofs.Places.{split}
+use Rattle.octets.specs.Bytes.{putAt}
+use Rattle.octets.proofs.Places.{split}
 use Rattle.tree.specs.General.{tab}
 use Rattle.tree.specs.Held.{parentIn, blockFor}
 use Rattle.tree.specs.Room.{stepTag, stepObject, stepData}

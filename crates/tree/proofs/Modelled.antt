@@ -8,15 +8,15 @@ use native.Mathlib.Omega.{arith}
 use lib.ListN.{length, getD, set, take, length-append, length-set}
 use lib.Dec.{eqb, leb, ltb}
 use borrow.Author.Tests.{ltb-true, lt-ltb, le-ltb, ne-eqb, eqb-true, eqb-false, leb-true}
-use Rattle.list.specs.Order.{need}
-use Rattle.list.specs.Bytes.{putAt, front, part}
+use Rattle.octets.specs.Order.{need}
+use Rattle.octets.specs.Bytes.{putAt, front, part}
 use Rattle.list.specs.Entry.{access}
 use Rattle.list.specs.List.{checkOf, MaybeList}
 use Rattle.list.specs.Answer.{Values, done, refused}
 use Rattle.list.specs.declared.lists.Reading.{Reading}
 use Rattle.list.specs.declared.lists.Reading.the-variants.{Done as Read, Refused as Unread}
-use Rattle.list.proofs.Places.{split, length-part, part-front}
-use Rattle.list.proofs.Tests.{both-true}
+use Rattle.octets.proofs.Places.{split, length-part, part-front}
+use Rattle.octets.proofs.Tests.{both-true}
 use Rattle.inherit.specs.Compute.{ordinary, ruleOk, onReading as Values·onReading, readable as Values·readable}
 use Rattle.tree.specs.Model.{shortIf}
 use Rattle.tree.specs.declared.Answer.{Answer}

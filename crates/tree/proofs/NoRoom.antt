@@ -15,11 +15,11 @@ use Rattle.list.specs.Entry.{access}
 use Rattle.list.specs.List.{checkOf, MaybeList}
 use Rattle.list.specs.declared.lists.Reading.{Reading}
 use Rattle.list.specs.declared.lists.Reading.the-variants.{Done as Read, Refused as Unread}
-use Rattle.list.proofs.Places.{split}
-use Rattle.list.proofs.Tests.{both-true, off}
+use Rattle.octets.proofs.Places.{split}
+use Rattle.octets.proofs.Tests.{both-true, off}
 use Rattle.inherit.specs.Branch.{Result, absent, holds, resultOf}
 use Rattle.inherit.specs.Compute.{ordinary, bytesFor, onReading, readable}
-use Rattle.list.specs.Order.{need}
+use Rattle.octets.specs.Order.{need}
 use Rattle.list.specs.Answer.{Values, done, refused}
 use Rattle.tree.specs.Held.{isDone}
 use Rattle.tree.proofs.Replay.{reads}

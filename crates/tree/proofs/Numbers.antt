@@ -7,14 +7,14 @@ use Prim.Native.Nat.{ℕ}
 use native.Mathlib.Omega.{arith}
 use lib.Dec.{eqb}
 use borrow.Author.Tests.{ne-eqb}
-use Rattle.list.specs.Order.{need}
+use Rattle.octets.specs.Order.{need}
 use Rattle.list.specs.Entry.{access}
 use Rattle.list.specs.List.{checkOf, MaybeList}
 use Rattle.list.specs.declared.lists.Reading.{Reading}
 use Rattle.list.specs.declared.lists.Reading.the-variants.{Done as Read, Refused as Unread}
 use Rattle.list.proofs.Answers.{ListNumber, list-number}
 use Rattle.list.specs.Answer.{Values}
-use Rattle.list.proofs.Tests.{off}
+use Rattle.octets.proofs.Tests.{off}
 use Rattle.tree.specs.declared.Answer.{Answer}
 use Rattle.tree.specs.declared.Answer.the-variants.{Done, Refused}
 use Rattle.tree.specs.Calls.{Outcome, refuse, isRefused, Says, Promised, Edit, list, mark, owners, ChangeGiven, add, alter, onReadingTo, readableTo, toldAs, onObject, tested, changeEnds, undoEnds, addTo, alterTo}

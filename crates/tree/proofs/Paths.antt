@@ -11,7 +11,7 @@ use lib.Seq.{getD-at}
 use lib.Dec.{eqb, ltb}
 use borrow.Author.Tests.{eqb-true, eqb-false, lt-ltb, le-ltb}
 use Rattle.list.specs.List.{MaybeList}
-use Rattle.list.proofs.Places.{split}
+use Rattle.octets.proofs.Places.{split}
 use Rattle.tree.specs.General.{bind}
 use Rattle.tree.specs.Held.{parentByteIn}
 use Rattle.tree.specs.Work.{computed}

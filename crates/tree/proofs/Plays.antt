@@ -11,13 +11,13 @@ use lib.ListN.{length, take}
 use lib.Seq.{take-all}
 use lib.Dec.{ltb}
 use borrow.Author.Tests.{lt-ltb, le-ltb, ltb-true}
-use Rattle.list.specs.Bytes.{putAt, front, part}
+use Rattle.octets.specs.Bytes.{putAt, front, part}
 use Rattle.list.specs.Entry.{access}
 use Rattle.list.specs.List.{checkOf, MaybeList}
 use Rattle.list.specs.declared.lists.Reading.{Reading}
 use Rattle.list.specs.declared.lists.Reading.the-variants.{Done as Read, Refused as Unread}
-use Rattle.list.proofs.Places.{split, length-part, put-whole}
-use Rattle.list.proofs.Tests.{both-true}
+use Rattle.octets.proofs.Places.{split, length-part, put-whole}
+use Rattle.octets.proofs.Tests.{both-true}
 use Rattle.inherit.specs.Compute.{ordinary}
 use Rattle.tree.specs.Model.{shortIf}
 use Rattle.tree.specs.General.{tab}
@@ -25,7 +25,7 @@ use Rattle.tree.specs.Held.{held, isDone, parentIn, blockFor}
 use Rattle.tree.specs.Room.{objectLimit, stepLimit, objects, keptSteps, settings, ownData, slot, step, stepTag, stepObject, stepData, area}
 use Rattle.tree.specs.Formed.{placedIn, stepsOk, formed}
 use Rattle.tree.specs.Inner.Heads.{Head}
-use Rattle.list.specs.Order.{need}
+use Rattle.octets.specs.Order.{need}
 use Rattle.tree.specs.Calls.{Edit, list, mark, owners, Outcome, refuse, onReadingTo, readableTo, onObject, tested, toldAs as told-in, ChangeGiven, add, alter}
 use Rattle.tree.specs.Calls.{editAt, editBytes, editPut, addPut, changed, changeTo, latest, standingAfter, stepTakenBack, changeEnds, undoEnds, New, nobody, objectFor, addTo, alterTo, undoTo}
 use Rattle.tree.proofs.History.{Call, edit, undo, settled, after}

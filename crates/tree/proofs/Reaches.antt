@@ -14,8 +14,8 @@ use lib.Seq.{take-at}
 use lib.Dec.{leb}
 use borrow.Author.Tests.{leb-true, lt-ltb}
 use Rattle.list.specs.List.{MaybeList}
-use Rattle.list.specs.Bytes.{front, part}
-use Rattle.list.proofs.Tests.{both-true, off}
+use Rattle.octets.specs.Bytes.{front, part}
+use Rattle.octets.proofs.Tests.{both-true, off}
 use Rattle.inherit.specs.Compute.{ruleOk}
 use Rattle.tree.specs.Model.{Settings, shortIf, limitsOk}
 use Rattle.tree.specs.General.{isSome, tab}
@@ -24,7 +24,7 @@ use Rattle.tree.specs.declared.Answer.the-variants.{Done, Refused}
 use Rattle.tree.specs.Held.{held, ownList}
 use Rattle.tree.specs.Room.{objectLimit, stepLimit, objects, keptSteps, roomFor, settings, settingsFor, ownData, slot, area, emptyRoom}
 use Rattle.tree.specs.Formed.{stepsOk, formed}
-use Rattle.list.specs.Order.{need}
+use Rattle.octets.specs.Order.{need}
 use Rattle.tree.specs.Calls.{Outcome, onObject, toldAs, listBytes, dataOf, copied, startOk, undoEnds, stepTakenBack, startTo, undoTo, listTo, ChangeGiven}
 use Rattle.tree.specs.Calls.{ownTo, dataTo}
 use Rattle.tree.proofs.History.{State, Call, edit, undo, Rules, settled, edited, undone as machine-undone, after, start, run, replay, afresh}

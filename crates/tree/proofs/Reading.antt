@@ -10,8 +10,8 @@ use lib.ListN.{length}
 use lib.Dec.{eqb, leb, ltb}
 use borrow.Author.Tests.{ltb-true, eqb-true, eqb-false, leb-true}
 use Rattle.list.specs.List.{MaybeList}
-use Rattle.list.specs.Order.{need}
-use Rattle.list.specs.Bytes.{front, part}
+use Rattle.octets.specs.Order.{need}
+use Rattle.octets.specs.Bytes.{front, part}
 use Rattle.list.specs.Answer.{Values, done, refused}
 use Rattle.tree.specs.declared.Answer.{Answer}
 use Rattle.tree.specs.declared.Answer.the-variants.{Done}

@@ -5,7 +5,7 @@ use mathlib.Core.Bool.{Bool, true, false, cond, _&&_}
 use mathlib.Core.Option.{Option, none, some}
 use lib.ListN.{length, getD, take, set}
 use lib.Dec.{eqb, ltb}
-use Rattle.list.specs.Bytes.{putAt}
+use Rattle.octets.specs.Bytes.{putAt}
 use Rattle.list.specs.Entry.{access}
 use Rattle.list.specs.List.{checkOf, MaybeList}
 use Rattle.inherit.specs.Compute.{ordinary}

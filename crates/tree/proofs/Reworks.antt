@@ -10,8 +10,8 @@ use lib.ListN.{length}
 use lib.Dec.{eqb}
 use borrow.Author.Tests.{eqb-true, lt-ltb, le-ltb}
 use Rattle.list.specs.List.{MaybeList}
-use Rattle.list.specs.Bytes.{part, putAt}
-use Rattle.list.proofs.Places.{split, length-put, part-put-same, part-put-before, part-put-after}
+use Rattle.octets.specs.Bytes.{part, putAt}
+use Rattle.octets.proofs.Places.{split, length-put, part-put-same, part-put-before, part-put-after}
 use Rattle.tree.specs.General.{bind, tab}
 use Rattle.tree.specs.Held.{held, slotFor, slotOk, parentByteIn, parentOf}
 use Rattle.tree.specs.Room.{ownAt, slotAt, settings, ownData, slot}

@@ -8,8 +8,8 @@ use native.Mathlib.Omega.{arith}
 use lib.ListN.{length}
 use lib.Arith.{mod-mul}
 use Rattle.list.specs.List.{MaybeList}
-use Rattle.list.specs.Bytes.{le, spell}
-use Rattle.list.proofs.Little.{le-append, length-spell}
+use Rattle.octets.specs.Bytes.{le, spell}
+use Rattle.octets.proofs.Little.{le-append, length-spell}
 use Rattle.inherit.specs.declared.Mapping.{Mapping}
 use Rattle.inherit.specs.Compute.{ruleOk}
 use Rattle.tree.specs.Model.{shortIf}

@@ -9,13 +9,13 @@ use lib.ListN.{length, getD, take, drop, replicate}
 use lib.Seq.{take-at, take-all}
 use lib.Dec.{leb}
 use borrow.Author.Tests.{leb-true, le-leb, eqb-true}
-use Rattle.list.specs.Bytes.{le, spell, part}
+use Rattle.octets.specs.Bytes.{le, spell, part}
 use Rattle.list.specs.Identity.{identityOf}
 use Rattle.list.specs.Entry.{access}
 use Rattle.list.specs.List.{checkOf, MaybeList, lent}
-use Rattle.list.proofs.Little.{le-append, le-spell, length-spell}
+use Rattle.octets.proofs.Little.{le-append, le-spell, length-spell}
 use Rattle.list.proofs.Sids.{identity-zero, one-sid, sid-most}
-use Rattle.list.proofs.Tests.{both-true}
+use Rattle.octets.proofs.Tests.{both-true}
 use Rattle.inherit.specs.Compute.{ordinary}
 use Rattle.tree.specs.Model.{shortIf}
 use Rattle.tree.specs.Held.{hasList, bytesIn, held, slotFor, isDone, slotOk, idIn, idFor, idOk}

@@ -6,8 +6,8 @@ use Prim.Native.Nat.{ℕ, suc, _+_, _-_, _*_, _≤_, _<_, min}
 use native.Mathlib.Omega.{arith}
 use lib.ListN.{length, take, drop, set, length-append, length-drop, length-set}
 use lib.Seq.{length-take-le, take-append-add, take-take, take-add, drop-at, drop-drop, set-getD, getD-set-same}
-use Rattle.list.specs.Bytes.{part, putAt}
-use Rattle.list.proofs.Places.{length-part, length-put, part-of-take, part-put-before, part-put-after, part-put-in, part-part, put-append, put-nil, put-one}
+use Rattle.octets.specs.Bytes.{part, putAt}
+use Rattle.octets.proofs.Places.{length-part, length-put, part-of-take, part-put-before, part-put-after, part-put-in, part-part, put-append, put-nil, put-one}
 use Rattle.tree.specs.Room.{objectLimit, stepLimit, keptSteps, stepsAt, roomFor, step}
 use Rattle.tree.specs.Calls.{stepsIn, stepKept, stepGone}
 use Rattle.tree.proofs.Areas.{Ready}

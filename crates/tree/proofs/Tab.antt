@@ -8,7 +8,7 @@ use native.Mathlib.Numerals.{add-one}
 use native.Mathlib.Omega.{arith}
 use lib.ListN.{length, take, getD, set, length-append, length-set, length-take, List·getD-append}
 use lib.Seq.{ext-getD, getD-at, getD-set-same, getD-set-other, getD-take}
-use Rattle.list.proofs.Places.{split}
+use Rattle.octets.proofs.Places.{split}
 use Rattle.tree.specs.General.{tab}
 
 module _ {A : Type 0} where

@@ -9,9 +9,9 @@ use native.Mathlib.Omega.{arith}
 use lib.ListN.{length, drop, length-take, length-drop}
 use lib.Dec.{eqb}
 use borrow.Author.Tests.{leb-true, le-leb, not-true, not-false}
-use Rattle.list.specs.Bytes.{le, part}
-use Rattle.list.proofs.Places.{part-most}
-use Rattle.list.proofs.Tests.{both-true, false-or}
+use Rattle.octets.specs.Bytes.{le, part}
+use Rattle.octets.proofs.Places.{part-most}
+use Rattle.octets.proofs.Tests.{both-true, false-or}
 use Rattle.tree.specs.General.{every}
 use Rattle.tree.specs.Held.{bytesIn}
 use Rattle.tree.specs.Room.{objectLimit, objects, keptSteps, settings, ownData, step, stepTag}

@@ -10,7 +10,7 @@ use native.Mathlib.Decide.{ℕ-discrete}
 use native.Mathlib.Omega.{arith}
 use lib.Dec.{eqb, ltb}
 use borrow.Author.Tests.{eq-eqb, ne-eqb, lt-ltb, eqb-true, ltb-true}
-use Rattle.list.proofs.Tests.{both-true}
+use Rattle.octets.proofs.Tests.{both-true}
 use Rattle.tree.specs.Model.{parentByte}
 use Rattle.tree.specs.Held.{blockOk, parentByteIn, parentIn, parentOf, kindByte}
 use Rattle.tree.specs.Room.{stepTag, stepObject, stepData}

@@ -7,10 +7,10 @@ use mathlib.Core.Option.{Option, some, none}
 use Prim.Native.Nat.{ℕ, _+_, _*_, _≤_}
 use native.Mathlib.Omega.{arith}
 use lib.ListN.{replicate}
-use Rattle.list.specs.Order.{need}
-use Rattle.list.specs.Bytes.{le, spell, sameBytes, guidAt, part, among}
+use Rattle.octets.specs.Order.{need}
+use Rattle.octets.specs.Bytes.{le, spell, sameBytes, guidAt, part, among}
 use Rattle.list.specs.Identity.{sidLen, isSid, placeholderOf, identityOf}
-use Rattle.list.specs.Entry.{plainOf, objectOf, objectKind, kindOk, flagsOk, headOf, wordAfter, entryBytes, tailOk, entryOf}
+use Rattle.list.specs.Entry.{plainOf, objectOf, objectKind, kindOk, flagsOk, headOf, wordAfter, entryBytes, conditionalOf, conditionalKind, expressionOk, tailLong, sizeOk, entryOf}
 use Rattle.list.specs.List.{revOk, headerOk, cut, entriesOf, headBytes, render, onGood, walkOf, finish, checkOf, MaybeList, lent}
 use Rattle.inherit.specs.Asked.{Asked, entriesIf, typesOk, typesOf}
 use Rattle.inherit.specs.Inner.Source.{given}
@@ -36,7 +36,7 @@ unfolding le spell sameBytes guidAt part sidLen isSid placeholderOf identityOf f
 bytes-open = tt
 
 unfoldable pub entries-open : Unit {0}
-unfolding plainOf objectOf objectKind kindOk flagsOk headOf wordAfter entryBytes tailOk need entryOf
+unfolding plainOf objectOf objectKind kindOk flagsOk headOf wordAfter entryBytes sizeOk tailLong expressionOk conditionalKind conditionalOf need entryOf
 entries-open = tt
 
 unfoldable pub lists-open : Unit {0}

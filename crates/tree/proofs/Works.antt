@@ -12,7 +12,7 @@ use lib.Seq.{take-at}
 use lib.Dec.{eqb}
 use borrow.Author.Tests.{ne-eqb, lt-ltb, le-ltb, not-true}
 use Rattle.list.specs.List.{MaybeList, lent}
-use Rattle.list.specs.Bytes.{le, part, putAt}
+use Rattle.octets.specs.Bytes.{le, part, putAt}
 use Rattle.inherit.specs.declared.Settings.{Settings}
 use Rattle.inherit.specs.declared.Mapping.{Mapping}
 use Rattle.inherit.specs.declared.Computed.{Computed}

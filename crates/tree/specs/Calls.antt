@@ -6,8 +6,8 @@ use mathlib.Core.Bool.{Bool, true, false, not, cond, _&&_}
 use mathlib.Core.Option.{Option, none, some}
 use lib.ListN.{length, take, drop, set}
 use lib.Dec.{eqb, leb, ltb}
-use Rattle.list.specs.Order.{need}
-use Rattle.list.specs.Bytes.{part, putAt, front, guidAt}
+use Rattle.octets.specs.Order.{need}
+use Rattle.octets.specs.Bytes.{part, putAt, front, guidAt}
 use Rattle.list.specs.Entry.{access}
 use Rattle.list.specs.List.{checkOf, countOf, MaybeList}
 use Rattle.list.specs.Answer.{Values, done, refused}
@@ -137,7 +137,7 @@ takeBackTo r = undoEnds r (stepTakenBack (area r))
 unfoldable pub startOk : ℕ → ℕ → ℕ → ℕ → Bool
 startOk n s rule room = limitsOk n s && (ruleOk rule && leb (roomFor n s) room)
 
--- start: 12, then the default list by 1 to 5, then 8
+-- start: 12, then the default list by 1 to 5 or 15, then 8
 unfoldable pub startTo : Settings → List ℕ → Outcome
 startTo t r =
     need (startOk (t .object-limit) (t .step-limit) (t .rule) (length r)) (refuse 12 0 0 r)
@@ -174,7 +174,7 @@ objectFor n =
 abbrev pub addPut : Object → ℕ → Put
 addPut o n = record { tag = 1; object = n; place = 0; bytes = blockFor o; standing = n + 1 }
 
--- add: 13, 9, 10, 1 to 5, 6, 8
+-- add: 13, 9, 10, 1 to 5 or 15, 6, 8
 unfoldable pub addTo : Object → List ℕ → Outcome
 addTo o r =
     need (formed r) (refuse 13 0 0 r)
@@ -212,13 +212,13 @@ editBytes (owners o g) = idFor o ++ idFor g
 abbrev pub editPut : ℕ → Edit → ℕ → Put
 editPut i e n = record { tag = 2; object = i; place = editAt e; bytes = editBytes e; standing = n }
 
--- the tests of what is given: 1 to 5, 6, 8
+-- the tests of what is given: 1 to 5 or 15, 6, 8
 unfoldable pub tested : Edit → List ℕ → Outcome → Outcome
 tested (list o) r rest = readableTo o 2 r (need (shortIf o) (refuse 8 0 0 r) rest)
 tested (mark m) r rest = rest
 tested (owners o g) r rest = need (ordinary o) (refuse 6 0 0 r) (need (ordinary g) (refuse 6 0 0 r) rest)
 
--- any other change: 13, 9, 1 to 5, 6, 8
+-- any other change: 13, 9, 1 to 5 or 15, 6, 8
 unfoldable pub alterTo : ℕ → Edit → List ℕ → Outcome
 alterTo i e r = onObject r i r (tested e r (changeTo (editPut i e (objects r)) r))
 

@@ -5,7 +5,7 @@ use mathlib.Core.Bool.{Bool, true, false, cond, _&&_, _||_}
 use mathlib.Core.Option.{Option, none, some}
 use lib.ListN.{length, getD, drop, replicate}
 use lib.Dec.{eqb, leb}
-use Rattle.list.specs.Bytes.{le, spell, part, sameBytes, guidAt}
+use Rattle.octets.specs.Bytes.{le, spell, part, sameBytes, guidAt}
 use Rattle.list.specs.Entry.{access}
 use Rattle.list.specs.List.{checkOf, MaybeList, lent}
 use Rattle.list.specs.declared.lists.Reading.{Reading}

@@ -6,8 +6,8 @@ use mathlib.Core.List.{List, [], _∷_, _++_}
 use mathlib.Core.Option.{Option, none, some}
 use lib.ListN.{length, getD, set}
 use lib.Dec.{eqb, leb, ltb}
-use Rattle.list.specs.Order.{need}
-use Rattle.list.specs.Bytes.{front}
+use Rattle.octets.specs.Order.{need}
+use Rattle.octets.specs.Bytes.{front}
 use Rattle.list.specs.Entry.{access}
 use Rattle.list.specs.List.{countOf, MaybeList}
 use Rattle.list.specs.Answer.{Values, done, refused}
@@ -150,7 +150,7 @@ told (some (some s)) = done (length s) 1 (countOf s) 0
 unfoldable pub outcome : Settings → List Object → ℕ → Values
 outcome t os i = need (listed t os) (refused 8 0 0) (told (listOf t os i))
 
--- 9, 10, 1 to 5, 6, 8
+-- 9, 10, 1 to 5 or 15, 6, 8
 unfoldable pub changeAnswer : Settings → List Object → Change → Values
 changeAnswer t os (add o) =
     need (placed os (o .parent)) (refused 9 0 0)
@@ -174,7 +174,7 @@ changeAnswer t os (setOwners i owner group) =
     (need (ordinary group) (refused 6 0 0)
     (outcome t (apply (setOwners i owner group) os) i)))
 
--- ---- start: 12, where limits or rule are out of range or the lent room isn't enough; then the default list by 1 to 5, then 8; else zeros
+-- ---- start: 12, where limits or rule are out of range or the lent room isn't enough; then the default list by 1 to 5 or 15, then 8; else zeros
 
 unfoldable pub limitsOk : ℕ → ℕ → Bool
 limitsOk objects steps = leb 1 objects && (leb objects 64 && leb steps 64)

@@ -5,7 +5,7 @@ use mathlib.Core.Bool.{Bool, cond, _&&_}
 use lib.ListN.{getD, take, drop, replicate}
 use lib.Dec.{leb}
 use Rattle.list.specs.List.{MaybeList}
-use Rattle.list.specs.Bytes.{le, spell, part}
+use Rattle.octets.specs.Bytes.{le, spell, part}
 use Rattle.inherit.specs.declared.Mapping.{Mapping}
 use Rattle.tree.specs.Model.{Settings, limitsOk}
 use Rattle.tree.specs.Held.{held, slotFor}

@@ -5,7 +5,7 @@ use mathlib.Core.Bool.{Bool, true, false, cond}
 use mathlib.Core.Option.{Option, none, some}
 use lib.Dec.{eqb, ltb}
 use Rattle.list.specs.List.{MaybeList, lent}
-use Rattle.list.specs.Bytes.{putAt}
+use Rattle.octets.specs.Bytes.{putAt}
 use Rattle.list.specs.Entry.{access}
 use Rattle.list.specs.Answer.{Values}
 use Rattle.inherit.specs.Asked.{Asked}

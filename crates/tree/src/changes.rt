@@ -23,7 +23,7 @@ use crate::places::step;
 use crate::steps::pop;
 use crate::steps::push;
 use crate::work::settle;
-use list::part_of;
+use octets::part_of;
 
 // The room of the largest tree, and of one of 16 objects and 16 steps, as scripts have it.
 const LARGEST: usize = 218456;
@@ -71,7 +71,7 @@ fn change_in(
     ensures { λ a. ⌜ (a ≡ changeTo (record { tag = tag; object = i; place = at; bytes = now (b .entry); standing = n }) (now (r .entry)) .answer) × (now (r .exit) ≡ changeTo (record { tag = tag; object = i; place = at; bytes = now (b .entry); standing = n }) (now (r .entry)) .bytes) ⌝ }
 {
     if change_copy(r, w, out, tag, i, at, b, n) {
-        list::put(r, w);
+        octets::put(r, w);
         return told(slot(w, i));
     }
     Answer::Refused {
@@ -156,7 +156,7 @@ fn undo_in(r: &mut [u8], w: &mut [u8], out: &mut [u8]) -> Answer
     ensures { λ a. ⌜ (a ≡ takeBackTo (now (r .entry)) .answer) × (now (r .exit) ≡ takeBackTo (now (r .entry)) .bytes) ⌝ }
 {
     if undo_copy(r, w, out) {
-        list::put(r, w);
+        octets::put(r, w);
         return Answer::Done {
             length: 0,
             present: false,

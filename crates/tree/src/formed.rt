@@ -21,8 +21,8 @@ use crate::places::own;
 use crate::places::settings;
 use crate::places::slot;
 use crate::places::step;
-use list::byte_in;
-use list::part_of;
+use octets::byte_in;
+use octets::part_of;
 
 fn head_ok(r: &[u8]) -> bool
     ensures { λ b. ⌜ b ≡ countsOk (now (r .entry)) ⌝ }

@@ -16,11 +16,11 @@ use crate::places::OWNER_AT;
 use crate::places::SLOT;
 use crate::places::TYPE_AT;
 use list::Reading;
-use list::byte_in;
 use list::guid_at;
-use list::half_in;
-use list::part_of;
 use list::same_guid;
+use octets::byte_in;
+use octets::half_in;
+use octets::part_of;
 
 // A byte as a number.
 pub(crate) fn number_in(s: &[u8], at: usize) -> usize

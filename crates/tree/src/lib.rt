@@ -4,7 +4,7 @@ ghost use mathlib.Core.Bool.{true, false};
 ghost use Prim.Native.Nat.{_≤_};
 ghost use lib.ListN.{length};
 ghost use Rattle.list.specs.List.{lent};
-ghost use Rattle.list.specs.Bytes.{front};
+ghost use Rattle.octets.specs.Bytes.{front};
 ghost use Rattle.tree.specs.Model.{shortIf as Model·short};
 ghost use Rattle.tree.specs.Held.{held};
 ghost use Rattle.tree.specs.Room.{roomFor, roomOf, emptyRoom};
@@ -21,7 +21,7 @@ use held::number_in;
 use held::ordinary;
 use held::told;
 use inherit::Mapping;
-use list::part_of;
+use octets::part_of;
 use places::GROUP_AT;
 use places::IDENTITIES;
 use places::IDENTITY;
@@ -317,7 +317,7 @@ fn give_list(s: &[u8], out: &mut [u8]) -> Answer
     if out.len() < b.len() {
         return refused(8);
     }
-    list::put(out, b);
+    octets::put(out, b);
     told(s)
 }
 

@@ -2,7 +2,7 @@
 ghost use mathlib.Core.Path.{_≡_};
 ghost use Prim.Native.Nat.{_<_};
 ghost use Rattle.tree.specs.Room.{ownData as Room·own, slot as Room·slot, step as Room·step, settings as Room·settings};
-use list::part_of;
+use octets::part_of;
 
 // A room (docs/ROOM.md): where its settings and its objects begin, and the lengths of its parts.
 pub(crate) const SETTINGS_AT: usize = 4;

@@ -3,7 +3,7 @@ ghost use mathlib.Core.Path.{_≡_};
 ghost use mathlib.Core.List.{_∷_};
 ghost use Prim.Native.Nat.{_+_, _≤_, _<_};
 ghost use lib.ListN.{length};
-ghost use Rattle.list.specs.Bytes.{putAt};
+ghost use Rattle.octets.specs.Bytes.{putAt};
 ghost use Rattle.tree.specs.Room.{objectLimit, stepLimit, keptSteps, roomFor, ownData as Room·own, area};
 ghost use Rattle.tree.specs.Inner.Heads.{Head};
 ghost use Rattle.tree.specs.Calls.{stepKept, stepGone};
@@ -14,7 +14,7 @@ use crate::places::STEP;
 use crate::places::own;
 use crate::writes::lay;
 use crate::writes::least;
-use list::part_of;
+use octets::part_of;
 
 // A step at a place.
 fn lay_step(w: &mut [u8], at: usize, tag: u8, i: u8, b: &[u8])

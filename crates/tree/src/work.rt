@@ -34,10 +34,10 @@ use crate::writes::zero;
 use inherit::Computed;
 use inherit::Mapping;
 use inherit::Settings;
-use list::byte_in;
 use list::guid_at;
-use list::part_of;
-use list::word_in;
+use octets::byte_in;
+use octets::part_of;
+use octets::word_in;
 
 fn mapping_in(e: &[u8]) -> Mapping
     ensures { λ m. ⌜ m ≡ mappingOf (now (e .entry)) ⌝ }

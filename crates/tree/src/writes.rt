@@ -6,7 +6,7 @@ ghost use mathlib.Core.Option.{some};
 ghost use Prim.Native.Nat.{_+_, _≤_, min};
 ghost use lib.ListN.{length, replicate};
 ghost use Rattle.list.specs.List.{lent};
-ghost use Rattle.list.specs.Bytes.{putAt, spell};
+ghost use Rattle.octets.specs.Bytes.{putAt, spell};
 ghost use Rattle.tree.specs.Model.{parentByte, shortIf};
 ghost use Rattle.tree.specs.Held.{yes, slotFor, idFor, parentIn, blockFor};
 ghost use Rattle.tree.specs.Calls.{nobody, objectFor};
@@ -40,7 +40,7 @@ pub(crate) fn lay(w: &mut [u8], at: usize, b: &[u8])
     requires { ⌜ at + length (now b) ≤ length (now w) ⌝ }
     ensures { λ _. ⌜ now (w .exit) ≡ putAt at (now (b .entry)) (now (w .entry)) ⌝ }
 {
-    list::put(&mut w[at..], b);
+    octets::put(&mut w[at..], b);
 }
 
 // n zeros at a place.

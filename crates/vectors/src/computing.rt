@@ -1,8 +1,8 @@
 // The computation. A case: its kind (3), a zero byte, a 16-bit zero; then 32-bit numbers: the rule, the settings, the four masks of the
 // mapping, the lengths of parent, creator, default, types, owner and group, and the room; then the bytes of those six.
 use crate::area::read_to;
-use list::part_of;
-use list::word_in;
+use octets::part_of;
+use octets::word_in;
 use stored::end_line;
 use stored::print_bytes;
 use stored::print_space;

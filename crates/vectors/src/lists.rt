@@ -1,8 +1,8 @@
 // Reading. A case: its kind (1 read a list, 2 identity), a zero byte, the row's length in 16 bits, the payload's length in 32, the payload.
 use crate::area::read_to;
-use list::half_in;
-use list::part_of;
-use list::word_in;
+use octets::half_in;
+use octets::part_of;
+use octets::word_in;
 use stored::end_line;
 use stored::print_bytes;
 use stored::print_size;

@@ -1,6 +1,6 @@
 // Runs the stored cases of standard input through the exported calls and writes what each answers, a line for each.
-// A case is a byte that says its kind, and what each layer's file says: 1 and 2 lists, 3 computing, 4 to 14 trees, 15 scripts, 16 and 17
-// who may open and a walk.
+// A case is a byte that says its kind, and what each layer's file says: 1 and 2 lists, 3 computing, 4 to 14 trees, 15 scripts, 16 to 19
+// who may open, a walk and expressions.
 // All numbers have their lowest byte first. The byte 0 ends the input; for one that holds no case, `bad` is written.
 mod area;
 mod computing;
@@ -10,7 +10,7 @@ mod scripts;
 mod trees;
 
 use area::read_to;
-use list::byte_in;
+use octets::byte_in;
 use stored::bad;
 
 // The longest case is that of the computation with all its parts.
@@ -24,7 +24,7 @@ fn run(kind: u8, area: &mut [u8], room: &mut [u8], lent: &mut usize) -> bool {
         1 | 2 => lists::run(kind, area),
         3 => computing::run(area),
         15 => scripts::run(area),
-        16 | 17 => openings::run(kind, area),
+        16 | 17 | 18 | 19 => openings::run(kind, area),
         _ => trees::run(kind, area, room, lent),
     }
 }

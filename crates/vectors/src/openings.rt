@@ -1,10 +1,12 @@
 // Who may open, and a walk. A case: its kind, a zero byte, a 16-bit zero, then 32-bit numbers. 16 may open: whether a list is given, the lengths of the
 // list and of the held bytes, the wanted mask; then 16 type bytes, the list and the held bytes. 17 step: the list's length and the place; then the list.
+// 18 evaluate: the lengths of the expression and of the table; then these. 19 may open with a table: as 16, with the table's length before the wanted
+// mask and the table at the end.
 use crate::area::read_to;
 use access::Found;
 use list::guid_at;
-use list::part_of;
-use list::word_in;
+use octets::part_of;
+use octets::word_in;
 use stored::end_line;
 use stored::print_space;
 use stored::print_values;
@@ -18,8 +20,19 @@ const LIST: usize = 36;
 
 const HELD: usize = 66036;
 
-// Where the list of a step begins.
+// The same with a table, which lies behind the most held bytes.
+const LIST_WITH: usize = 40;
+
+const HELD_WITH: usize = 66040;
+
+const TABLE_WITH: usize = 74040;
+
+// Where the list of a step begins, or an expression; and its table, behind the longest one.
 const WALKED: usize = 12;
+
+const TABLE: usize = 66012;
+
+const MOST_TABLE: usize = 8000;
 
 fn run_open(area: &[u8]) {
     let mut answer = [0u32; 8];
@@ -30,6 +43,33 @@ fn run_open(area: &[u8]) {
         &guid,
         part_of(area, HELD, word_in(area, 12) as usize),
         word_in(area, 16),
+        &mut answer,
+    );
+    print_values(answer, 8);
+    end_line();
+}
+
+fn run_open_with(area: &[u8]) {
+    let mut answer = [0u32; 8];
+    let guid = guid_at(area, 24);
+    capi::pt_may_open_with(
+        word_in(area, 4),
+        part_of(area, LIST_WITH, word_in(area, 8) as usize),
+        &guid,
+        part_of(area, HELD_WITH, word_in(area, 12) as usize),
+        word_in(area, 20),
+        part_of(area, TABLE_WITH, word_in(area, 16) as usize),
+        &mut answer,
+    );
+    print_values(answer, 8);
+    end_line();
+}
+
+fn run_evaluate(area: &[u8]) {
+    let mut answer = [0u32; 8];
+    capi::pt_evaluate(
+        part_of(area, WALKED, word_in(area, 4) as usize),
+        part_of(area, TABLE, word_in(area, 8) as usize),
         &mut answer,
     );
     print_values(answer, 8);
@@ -55,6 +95,37 @@ fn open(area: &mut [u8]) -> bool {
         return false;
     }
     run_open(area);
+    true
+}
+
+fn open_with(area: &mut [u8]) -> bool {
+    if !read_to(area, 1, 39) {
+        return false;
+    }
+    if !read_part(area, LIST_WITH, word_in(area, 8) as usize, MOST_LIST) {
+        return false;
+    }
+    if !read_part(area, HELD_WITH, word_in(area, 12) as usize, MOST_HELD) {
+        return false;
+    }
+    if !read_part(area, TABLE_WITH, word_in(area, 16) as usize, MOST_TABLE) {
+        return false;
+    }
+    run_open_with(area);
+    true
+}
+
+fn evaluate(area: &mut [u8]) -> bool {
+    if !read_to(area, 1, 11) {
+        return false;
+    }
+    if !read_part(area, WALKED, word_in(area, 4) as usize, MOST_LIST) {
+        return false;
+    }
+    if !read_part(area, TABLE, word_in(area, 8) as usize, MOST_TABLE) {
+        return false;
+    }
+    run_evaluate(area);
     true
 }
 
@@ -102,8 +173,10 @@ fn step(area: &mut [u8]) -> bool {
 
 // Reads the rest of a case and runs it; false where a length is over its limit, the input ends, or two functions tell differently.
 pub(crate) fn run(kind: u8, area: &mut [u8]) -> bool {
-    if kind == 16 {
-        return open(area);
+    match kind {
+        16 => open(area),
+        18 => evaluate(area),
+        19 => open_with(area),
+        _ => step(area),
     }
-    step(area)
 }

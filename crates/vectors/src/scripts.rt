@@ -1,8 +1,8 @@
 // Whole scripts. A case: its kind (15), the script's length in 32 bits, the length of `out` in 16, the script.
 use crate::area::read_to;
-use list::half_in;
-use list::part_of;
-use list::word_in;
+use octets::half_in;
+use octets::part_of;
+use octets::word_in;
 use stored::end_line;
 use stored::prepare;
 use stored::print_answer;

@@ -5,9 +5,9 @@
 // 13 counts. 14 room: objects, steps.
 use crate::area::read_to;
 use list::guid_at;
-use list::half_in;
-use list::part_of;
-use list::word_in;
+use octets::half_in;
+use octets::part_of;
+use octets::word_in;
 use stored::end_line;
 use stored::prepare;
 use stored::print_answer;

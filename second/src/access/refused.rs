@@ -1,6 +1,7 @@
 //! Why a question is refused, in the order of the tests.
 
 use crate::answer::Answer;
+use crate::condition::BadTable;
 use crate::refusal::Refusal;
 
 #[derive(Clone, Copy, Debug, PartialEq, Eq)]
@@ -9,6 +10,7 @@ pub enum Refused {
     List(Refusal),
     HeldNotSids,
     TooManyHeld,
+    Table(BadTable),
 }
 
 impl Refused {
@@ -19,6 +21,7 @@ impl Refused {
             Refused::List(refusal) => Answer::refused(refusal, 0),
             Refused::HeldNotSids => Answer::refused_as_a_whole(6),
             Refused::TooManyHeld => Answer::refused_as_a_whole(7),
+            Refused::Table(_) => Answer::refused_as_a_whole(23),
         }
     }
 
@@ -28,6 +31,7 @@ impl Refused {
             Refused::List(refusal) => refusal.fault.name(),
             Refused::HeldNotSids => "held bytes aren't SIDs",
             Refused::TooManyHeld => "over 32 SIDs held",
+            Refused::Table(bad) => bad.name(),
         }
     }
 }

@@ -30,7 +30,7 @@ fn in_eight(entry: &Entry) -> [u32; 8] {
         number(size),
         entry.mask,
         object_word(entry),
-        number(size - entry.sid.len()),
+        number(size - entry.sid.len() - entry.expression.len()),
         number(entry.sid.len()),
         number(entry.offset + size),
     ]

@@ -1,3 +1,5 @@
+mod conditional;
+
 use super::*;
 use crate::hex;
 

@@ -1,5 +1,6 @@
 //! Building good lists, entries and identities, whole or at random.
 
+use crate::condition::padded_length;
 use crate::list::{Guid, HEADER_LENGTH, List};
 use crate::random::Random;
 
@@ -81,6 +82,8 @@ pub struct EntryPlan {
     /// ObjectType and InheritedObjectType, written where the word has them.
     pub guids: [Guid; 2],
     pub sid: Vec<u8>,
+    /// Behind the SID of a conditional entry, without its zeros; else empty.
+    pub expression: Vec<u8>,
 }
 
 impl EntryPlan {
@@ -92,6 +95,7 @@ impl EntryPlan {
             word: 0,
             guids: COUNTING_FROM.map(counting_guid),
             sid,
+            expression: Vec::new(),
         }
     }
 
@@ -115,6 +119,25 @@ impl EntryPlan {
             word: random.below(4) as u32,
             guids: [random_guid(random), random_guid(random)],
             sid: random_sid(random, numbers),
+            expression: Vec::new(),
+        }
+    }
+
+    /// Types 09 and 0A.
+    pub fn conditional(entry_type: u8, flags: u8, sid: Vec<u8>, expression: Vec<u8>) -> EntryPlan {
+        EntryPlan {
+            expression,
+            ..EntryPlan::plain(entry_type, flags, sid)
+        }
+    }
+
+    /// The same allow or deny as a conditional entry.
+    pub fn under(self, expression: Vec<u8>) -> EntryPlan {
+        let is_allow = matches!(self.entry_type, 0 | 5 | 9);
+        EntryPlan {
+            entry_type: if is_allow { 9 } else { 10 },
+            expression,
+            ..self
         }
     }
 
@@ -136,7 +159,7 @@ impl EntryPlan {
     }
 
     pub fn size(&self) -> usize {
-        self.sid_at() + self.sid.len()
+        self.sid_at() + self.sid.len() + padded_length(self.expression.len())
     }
 
     pub fn bytes(&self) -> Vec<u8> {
@@ -152,6 +175,8 @@ impl EntryPlan {
             }
         }
         bytes.extend_from_slice(&self.sid);
+        bytes.extend_from_slice(&self.expression);
+        bytes.resize(self.size(), 0);
         bytes
     }
 }

@@ -2,6 +2,7 @@
 
 pub mod access;
 pub mod build;
+pub mod condition;
 pub mod inherit;
 pub mod list;
 pub mod script;
@@ -21,6 +22,7 @@ pub fn all(examples: &[Example]) -> Vec<Case> {
         tree::all(),
         script::all(),
         access::all(),
+        condition::all(),
     ]
     .concat()
 }

@@ -1,3 +1,4 @@
+mod conditional;
 mod masks;
 
 use super::*;

@@ -1,3 +1,5 @@
+mod conditional;
+
 use super::*;
 use crate::hex;
 
@@ -104,7 +106,7 @@ fn a_smaller_count_hides_the_entries_behind_it() {
     assert_eq!(count_and_end(&changed(PAIR, &[(4, 1)])), (1, 24));
     assert_eq!(count_and_end(&changed(PAIR, &[(4, 0)])), (0, 8));
     // Bad ones too: type, flags, size and SID of the second.
-    let bad = [(4, 1), (24, 9), (25, 0xFF), (26, 0xFF), (32, 2)];
+    let bad = [(4, 1), (24, 8), (25, 0xFF), (26, 0xFF), (32, 2)];
     assert_eq!(count_and_end(&changed(PAIR, &bad)), (1, 24));
 }
 
@@ -163,10 +165,10 @@ fn lists_of_up_to_65535_bytes() {
 #[test]
 fn entry_checks_in_order() {
     // (a) before (b): the size is one past what remains
-    assert_eq!(refusal(&changed(PAIR, &[(26, 17), (24, 9)])), (2, 24));
+    assert_eq!(refusal(&changed(PAIR, &[(26, 17), (24, 8)])), (2, 24));
     // (b) before (c) and (d)
     assert_eq!(
-        refusal(&changed(PAIR, &[(24, 9), (25, 0x20), (26, 0)])),
+        refusal(&changed(PAIR, &[(24, 8), (25, 0x20), (26, 0)])),
         (3, 24)
     );
     // (c) before (d)
@@ -195,7 +197,7 @@ fn object_types_ask_for_revision_4() {
 
 #[test]
 fn the_first_bad_entry_decides() {
-    assert_eq!(refusal(&changed(PAIR, &[(16, 2), (24, 9)])), (5, 8));
+    assert_eq!(refusal(&changed(PAIR, &[(16, 2), (24, 8)])), (5, 8));
 }
 
 #[test]

@@ -10,6 +10,7 @@
 //! held bytes at most 8,000. The answer is a line of the answer's eight
 //! numbers, decimal, and for a step the entry's eight behind them.
 
+use super::reader::Reader;
 use super::{Case, spaced};
 use crate::access::{self, Question};
 
@@ -40,39 +41,6 @@ pub fn encode_step(list: &[u8], place: u32, out: &mut Vec<u8>) {
     out.extend(list);
 }
 
-/// What is left of the file.
-struct Reader<'a>(&'a [u8]);
-
-impl<'a> Reader<'a> {
-    fn take<const N: usize>(&mut self) -> Result<[u8; N], &'static str> {
-        let (front, behind) = self.0.split_first_chunk().ok_or("cut head")?;
-        self.0 = behind;
-        Ok(*front)
-    }
-
-    /// The first byte is known to be the kind.
-    fn kind(&mut self) -> Result<(), &'static str> {
-        match self.take()? {
-            [_, 0, 0, 0] => Ok(()),
-            _ => Err("unknown head"),
-        }
-    }
-
-    fn number(&mut self) -> Result<u32, &'static str> {
-        self.take().map(u32::from_le_bytes)
-    }
-
-    fn part(&mut self, length: u32, most: usize) -> Result<Vec<u8>, &'static str> {
-        if length as usize > most {
-            return Err("a part is too long");
-        }
-        let split = self.0.split_at_checked(length as usize);
-        let (part, behind) = split.ok_or("cut part")?;
-        self.0 = behind;
-        Ok(part.to_vec())
-    }
-}
-
 pub fn decode(file: &[u8]) -> Result<(Case, &[u8]), &'static str> {
     let mut reader = Reader(file);
     reader.kind()?;
@@ -80,14 +48,20 @@ pub fn decode(file: &[u8]) -> Result<(Case, &[u8]), &'static str> {
     let list_length = reader.number()?;
     let held_length = reader.number()?;
     let wanted = reader.number()?;
-    let question = Question {
+    let question = take_question(&mut reader, [has_list, list_length, held_length, wanted])?;
+    Ok((Case::MayOpen(question), reader.0))
+}
+
+/// What is behind the numbers of a question.
+pub fn take_question(reader: &mut Reader, numbers: [u32; 4]) -> Result<Question, &'static str> {
+    let [has_list, list_length, held_length, wanted] = numbers;
+    Ok(Question {
         has_list,
         wanted,
         object_type: reader.take()?,
         list: reader.part(list_length, LONGEST_LIST)?,
         held: reader.part(held_length, LONGEST_HELD)?,
-    };
-    Ok((Case::MayOpen(question), reader.0))
+    })
 }
 
 pub fn decode_step(file: &[u8]) -> Result<(Case, &[u8]), &'static str> {

@@ -11,7 +11,7 @@ use Rattle.list.specs.Entry.{access}
 use Rattle.list.specs.List.{checkOf}
 use Rattle.list.specs.declared.lists.Reading.the-variants.{Done}
 use Rattle.list.proofs.Answers.{checked}
-use Rattle.list.proofs.Places.{part-first}
+use Rattle.octets.proofs.Places.{part-first}
 use Rattle.access.specs.Walk.{stepAt}
 use Rattle.access.specs.Inner.Seek.{seekFrom}
 use Rattle.access.proofs.Opens.{sought, pointed, stopped}

@@ -1,6 +1,6 @@
 -- What `access::may_open` answers, in its places. Assumes nothing.
 use borrow.Author.Needs.{needs}
-use mathlib.Core.Path.{sym, ap, _∙_}
+use mathlib.Core.Path.{ap, _∙_}
 use Rattle.access.specs.Open.{accessValues}
 use Rattle.access.specs.declared.Access.{Access}
 use Rattle.capi.specs.Places.{placesOf}
@@ -10,50 +10,11 @@ use Rattle.capi.proofs.pt_may_open.Tie as tie
 may-open-requires : tie.Need-may-open-requires
 may-open-requires c κs = search needs
 
-enum-told : tie.Need-enum-told
-enum-told c = search needs
-
-put-values-requires : tie.Need-put-values-requires
-put-values-requires c κs = search needs
-
-enum-told-2 : tie.Need-enum-told-2
-enum-told-2 c = search needs
-
-put-values-requires-2 : tie.Need-put-values-requires-2
-put-values-requires-2 c κs = search needs
-
-enum-known-number : tie.Need-enum-known-number
-enum-known-number c = search needs
-
-put-refused-requires : tie.Need-put-refused-requires
-put-refused-requires c κs = search needs
+put-access-requires : tie.Need-put-access-requires
+put-access-requires c κs = search needs
 
 returns : tie.Need-returns
-returns c =
-    let k = c .before .before in
-    c .put-values .ensures ∙ ap (λ (a : Access). placesOf (accessValues a)) (sym (k .enum-told .given .1) ∙ k .before .before .may-open .ensures)
-
-returns-2 : tie.Need-returns-2
-returns-2 c =
-    let k = c .before .before in
-    c .put-values2 .ensures ∙ ap (λ (a : Access). placesOf (accessValues a)) (sym (k .enum-told2 .given .1) ∙ k .before .before .may-open .ensures)
-
-returns-3 : tie.Need-returns-3
-returns-3 c =
-    let k = c .before .before .before in
-    c .put-refused .ensures ∙ ap (λ (a : Access). placesOf (accessValues a)) (sym (k .number .given .1) ∙ k .before .before .may-open .ensures)
+returns c = c .put-access .ensures ∙ ap (λ (a : Access). placesOf (accessValues a)) (c .before .may-open .ensures)
 
 pub pt-may-open-spec : {M : Type 1} → statement M
-pt-may-open-spec =
-    tie.close
-    (tie.spec
-    may-open-requires
-    enum-told
-    put-values-requires
-    enum-told-2
-    put-values-requires-2
-    enum-known-number
-    put-refused-requires
-    returns
-    returns-2
-    returns-3)
+pt-may-open-spec = tie.close (tie.spec may-open-requires put-access-requires returns)

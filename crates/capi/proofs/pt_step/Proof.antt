@@ -5,7 +5,7 @@ use mathlib.Core.Path.{_≡_, sym, ap, _∙_}
 use mathlib.Core.List.{List}
 use Prim.Native.Nat.{ℕ}
 use denote.Ref.{now}
-use Rattle.list.specs.Bytes.{Bytes}
+use Rattle.octets.specs.Bytes.{Bytes}
 use Rattle.access.specs.declared.steps.Found.{Found}
 use Rattle.access.specs.declared.steps.Found.the-variants.{At, End}
 use Rattle.access.specs.declared.Pointed.{Pointed}

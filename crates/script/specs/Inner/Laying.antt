@@ -2,7 +2,7 @@
 use Prim.Native.Nat.{ℕ}
 use mathlib.Core.List.{List, _++_}
 use lib.ListN.{take, drop}
-use Rattle.list.specs.Bytes.{putOn}
+use Rattle.octets.specs.Bytes.{putOn}
 
 unfoldable pub laidAt : ℕ → List ℕ → List ℕ → List ℕ
 laidAt at s d = take at d ++ putOn s (drop at d)

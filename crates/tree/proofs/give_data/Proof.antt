@@ -6,7 +6,7 @@ use mathlib.Core.Bool.{true}
 use Prim.Native.Nat.{ℕ, _≤_}
 use denote.Ref.{now}
 use lib.ListN.{length, length-set}
-use Rattle.list.proofs.Places.{part-most}
+use Rattle.octets.proofs.Places.{part-most}
 use Rattle.tree.specs.declared.Answer.{Answer}
 use Rattle.tree.specs.declared.Answer.the-variants.{Done}
 use Rattle.tree.specs.Held.{idIn, ownerOf, groupOf}

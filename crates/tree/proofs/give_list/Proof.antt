@@ -6,8 +6,8 @@ use mathlib.Core.List.{List}
 use Prim.Native.Nat.{ℕ}
 use denote.Ref.{now}
 use lib.ListN.{length}
-use Rattle.list.specs.Bytes.{front}
-use Rattle.list.proofs.Writes.{put-all}
+use Rattle.octets.specs.Bytes.{front}
+use Rattle.octets.proofs.Writes.{put-all}
 use Rattle.tree.specs.Held.{bytesIn}
 use Rattle.tree.specs.Calls.{listBytes}
 use Rattle.tree.proofs.Tested.{refused, passed}

@@ -4,7 +4,7 @@ use mathlib.Core.Path.{_≡_, refl, sym, ap, _∙_}
 use mathlib.Core.List.{List}
 use Prim.Native.Nat.{ℕ}
 use denote.Ref.{now}
-use Rattle.list.specs.Bytes.{part}
+use Rattle.octets.specs.Bytes.{part}
 use Rattle.tree.specs.Held.{held}
 use Rattle.tree.specs.Calls.{toldAs, listBytes, copied, ownTo}
 use Rattle.tree.specs.Inner.Faults.{objectFault}

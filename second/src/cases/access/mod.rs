@@ -3,6 +3,7 @@
 mod bad_held;
 mod bits;
 mod computed;
+mod conditional;
 mod easy;
 pub mod fresh;
 mod held;
@@ -26,8 +27,10 @@ const SEED: u64 = 5;
 pub fn all() -> Vec<Case> {
     let mut random = Random::new(SEED);
     let questions = questions(&mut random).into_iter().map(Case::MayOpen);
-    let others = questions.chain(steps::cases(&mut random));
-    joined(Vec::new(), others.collect())
+    let mut all: Vec<Case> = questions.collect();
+    all.extend(steps::cases(&mut random));
+    all.extend(conditional::cases(&mut random));
+    joined(Vec::new(), all)
 }
 
 fn questions(random: &mut Random) -> Vec<Question> {
@@ -50,6 +53,7 @@ fn questions(random: &mut Random) -> Vec<Question> {
 mod tests {
     use super::*;
     use crate::access::Verdict;
+    use crate::condition::{BadTable, Truth};
     use crate::records::encode_all;
     use crate::refusal::Fault;
     use crate::tally::Tally;
@@ -63,11 +67,20 @@ mod tests {
         };
         for verdict in Verdict::ALL {
             often(&format!("may open 0  {}", verdict.name()), 30);
+            often(&format!("may open with 0  {}", verdict.name()), 10);
         }
-        for fault in Fault::ALL.into_iter().filter(|fault| fault.number() < 6) {
+        for fault in Fault::ALL.into_iter().filter(|fault| fault.is_of_list()) {
             let named = format!("{}  {}", fault.number(), fault.name());
             often(&format!("may open {named}"), 4);
             often(&format!("step {named}"), 2);
+        }
+        for truth in Truth::ALL {
+            for what in ["allow", "deny"] {
+                often(&format!("may open 0  {what}: {}", truth.name()), 90);
+            }
+        }
+        for bad in BadTable::ALL {
+            often(&format!("may open with 23  {}", bad.name()), 3);
         }
         for (label, least) in [
             ("may open 0  yes: every bit allowed", 400),
@@ -77,6 +90,10 @@ mod tests {
             ("may open 14  a generic bit wanted", 100),
             ("may open 6  held bytes aren't SIDs", 250),
             ("may open 7  over 32 SIDs held", 15),
+            ("may open with 14  a generic bit wanted", 60),
+            ("may open with 15  expression", 25),
+            ("may open with 6  held bytes aren't SIDs", 10),
+            ("may open with 7  over 32 SIDs held", 3),
             ("step 0  to an entry", 250),
             ("step 0  none left", 80),
             ("step 0  spare bytes", 50),
@@ -88,10 +105,10 @@ mod tests {
     #[test]
     fn the_file_stays_small_and_the_same() {
         let cases = all();
-        assert!((2_700..=3_400).contains(&cases.len()), "{}", cases.len());
+        assert!((3_700..=4_600).contains(&cases.len()), "{}", cases.len());
         // Three of them have about 65,000 bytes.
         let file = encode_all(&cases);
-        assert!(file.len() <= 700_000, "{}", file.len());
+        assert!(file.len() <= 850_000, "{}", file.len());
         assert_eq!(file, encode_all(&all()));
     }
 }

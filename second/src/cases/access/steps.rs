@@ -33,13 +33,13 @@ fn at(list: &[u8], place: usize) -> Case {
     }
 }
 
-fn at_each(list: &[u8], places: impl IntoIterator<Item = usize>) -> Vec<Case> {
+pub fn at_each(list: &[u8], places: impl IntoIterator<Item = usize>) -> Vec<Case> {
     places.into_iter().map(|place| at(list, place)).collect()
 }
 
 /// The beginning, each entry's and one less and more, the end, the length and
 /// past it, and the greatest number.
-fn telling_places(list: &[u8]) -> Vec<usize> {
+pub fn telling_places(list: &[u8]) -> Vec<usize> {
     let parsed = List::parse(list).expect("these lists are good");
     let begins = parsed.entries.iter().map(|entry| entry.offset);
     let mut places: Vec<usize> = begins

@@ -76,7 +76,7 @@ fn good() -> Vec<u8> {
 }
 
 /// One bad list for each of the numbers 1 to 5.
-fn one_of_each_number() -> Vec<Vec<u8>> {
+pub fn one_of_each_number() -> Vec<Vec<u8>> {
     let lists = bad_lists();
     let number = |list: &[u8]| List::parse(list).err().map(|why| why.fault.number());
     let first_with = |wanted| {

@@ -1,7 +1,8 @@
 //! The stored cases for the computation.
 
 mod branches;
-mod fault_orders;
+mod conditional;
+pub(super) mod fault_orders;
 mod flags;
 pub mod fresh;
 pub(super) mod identities;
@@ -46,6 +47,7 @@ pub fn all() -> Vec<Case> {
     made.extend(large::cases());
     made.extend(spare::cases(&mut random));
     made.extend(mending::cases());
+    made.extend(conditional::cases(&mut random));
     joined(worked::cases(), made)
 }
 
@@ -93,7 +95,7 @@ mod tests {
             let label = format!("compute 0  {}", branch.name());
             assert!(tally.count(&label) >= 200, "{label}");
         }
-        let of_reading = Fault::ALL.into_iter().filter(|fault| fault.number() < 6);
+        let of_reading = Fault::ALL.into_iter().filter(|fault| fault.is_of_list());
         for fault in of_reading {
             for which in WhichList::ALL {
                 let label = format!(
@@ -124,9 +126,10 @@ mod tests {
     #[test]
     fn the_file_stays_small_and_the_same() {
         let cases = all();
-        // Three of those with spare bytes have about 65,000 bytes.
-        assert!(encode_all(&cases).len() <= 1_550_000);
-        assert!((3_000..=5_400).contains(&cases.len()));
+        // Three of those with spare bytes have about 65,000 bytes, and one
+        // with a condition.
+        assert!(encode_all(&cases).len() <= 1_700_000);
+        assert!((4_000..=5_800).contains(&cases.len()));
         assert_eq!(cases, all());
     }
 }

@@ -2,6 +2,7 @@
 
 mod boundaries;
 mod byte_changes;
+mod conditional;
 mod fault_pairs;
 pub(super) mod identities;
 mod noise;
@@ -30,6 +31,7 @@ pub fn all(examples: &[Example]) -> Vec<Case> {
     made.extend(rows::cases(&mut random));
     made.extend(identities::cases(&mut random));
     made.extend(spare::cases(&mut random));
+    made.extend(conditional::cases(&mut random));
 
     joined(examples.iter().map(Example::case).collect(), made)
 }
@@ -57,6 +59,7 @@ mod tests {
             assert!(tally.count(label) >= 100, "{label}");
         }
         assert!(tally.count("read 0  spare bytes") >= 300);
+        assert!(tally.count("read 15  expression") >= 200);
         for label in ["identity 1", "identity 2"] {
             assert!(tally.count(label) >= 1, "{label}");
         }
@@ -65,9 +68,9 @@ mod tests {
     #[test]
     fn the_file_stays_small_and_the_same() {
         let cases = all(&[]);
-        // Ten of them have about 65,000 bytes, half of those spare bytes.
+        // Eleven of them have about 65,000 bytes, half of those spare bytes.
         assert!(encode_all(&cases).len() <= 1_800_000);
-        assert!((3_000..=5_200).contains(&cases.len()));
+        assert!((4_000..=5_900).contains(&cases.len()));
         assert_eq!(cases, all(&[]));
     }
 }

@@ -1,5 +1,6 @@
 //! The stored scripts.
 
+mod conditional;
 mod cuts;
 mod forms;
 pub mod fresh;
@@ -35,6 +36,7 @@ pub fn all() -> Vec<Case> {
         fitting(scripts),
         worked::lengths_of_out(),
         fitting(spare::scripts(&mut random)),
+        fitting(conditional::scripts(&mut random)),
     ]
     .concat();
     joined(Vec::new(), others)
@@ -55,7 +57,7 @@ mod tests {
             let count = tally.count(label);
             assert!(count >= least, "{label}: {count}");
         };
-        for fault in Fault::ALL.into_iter().filter(|fault| fault.number() < 6) {
+        for fault in Fault::ALL.into_iter().filter(|fault| fault.is_of_list()) {
             for call in ["add", "set list"] {
                 let label = format!("record {call} {}  {}", fault.number(), fault.name());
                 often(&label, 2);
@@ -98,10 +100,10 @@ mod tests {
     #[test]
     fn the_file_stays_small_and_the_same() {
         let cases = all();
-        // Some 140 have lists with spare bytes.
+        // Some 140 have lists with spare bytes, some 30 conditional entries.
         assert!((1_000..=1_700).contains(&cases.len()), "{}", cases.len());
         let file = encode_all(&cases);
-        assert!(file.len() <= 1_300_000, "{}", file.len());
+        assert!(file.len() <= 1_350_000, "{}", file.len());
         assert_eq!(file, encode_all(&all()));
     }
 

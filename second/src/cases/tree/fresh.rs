@@ -2,6 +2,7 @@
 
 use super::palette::{Palette, object};
 use super::sequence::{MOST_CALLS, SMALL, Sequence};
+use crate::cases::condition;
 use crate::cases::inherit::refusals::{bad_lists, bad_sids};
 use crate::random::Random;
 use crate::tree::{Add, Call, Calls, Change, NO_PARENT, Part};
@@ -29,6 +30,12 @@ impl Faults {
             lists: bad_lists(),
             sids: bad_sids(random),
         }
+    }
+
+    /// Lists of conditional entries besides.
+    pub fn with_conditions(mut self) -> Faults {
+        self.lists.extend(condition::bad_lists());
+        self
     }
 
     pub fn spoil(&self, random: &mut Random, change: &mut Change) {

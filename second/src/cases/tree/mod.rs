@@ -1,6 +1,7 @@
 //! The stored sequences of calls on a tree.
 
 pub(super) mod chains;
+pub(super) mod conditional;
 pub(super) mod crossing;
 pub(super) mod fresh;
 mod limits;
@@ -43,6 +44,7 @@ pub fn sequences() -> Vec<Vec<Call>> {
     all.extend(fresh::sequences(&mut random));
     all.extend(spare::sequences(&mut random));
     all.extend(mending::sequences());
+    all.extend(conditional::sequences(&mut random));
     all
 }
 
@@ -66,7 +68,7 @@ mod tests {
             let count = tally.count(label);
             assert!(count >= least, "{label}: {count}");
         };
-        for fault in Fault::ALL.into_iter().filter(|fault| fault.number() < 6) {
+        for fault in Fault::ALL.into_iter().filter(|fault| fault.is_of_list()) {
             for call in ["start", "add", "set list"] {
                 let label = format!("tree {call} {}  {}", fault.number(), fault.name());
                 often(&label, 2);

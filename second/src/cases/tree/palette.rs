@@ -7,12 +7,16 @@ use crate::cases::build::{
     EntryPlan, creator_sid, good_list, hiding_some, list_of_plans, nt_sid, of_creator_authority,
     random_spare, with_spare,
 };
+use crate::cases::condition::fresh::Attributes;
 use crate::cases::inherit::fresh::{
     generic_mask, mapping, not_looked_at, ordinary_sid, related_guids, telling_mapping,
 };
 use crate::list::{Guid, HEADER_LENGTH};
 use crate::random::Random;
 use crate::tree::{Add, Change, LONGEST_LIST, NO_PARENT, Object, Start, traits};
+
+/// Of a condition, so that lists stay short.
+const MOST_TOKENS: usize = 6;
 
 /// What the calls of one sequence draw from.
 pub struct Palette {
@@ -26,6 +30,8 @@ pub struct Palette {
     roomy: bool,
     /// Masks ask for generic bits, and mappings bring some in.
     generic: bool,
+    /// What short conditions of entries draw from, if any has one.
+    conditions: Option<Attributes>,
 }
 
 impl Palette {
@@ -49,6 +55,7 @@ impl Palette {
             heavy,
             roomy: false,
             generic: false,
+            conditions: None,
         }
     }
 
@@ -62,6 +69,13 @@ impl Palette {
     pub fn with_generic_bits(self) -> Palette {
         Palette {
             generic: true,
+            ..self
+        }
+    }
+
+    pub fn with_conditions(self) -> Palette {
+        Palette {
+            conditions: Some(Attributes::few()),
             ..self
         }
     }
@@ -102,7 +116,10 @@ impl Palette {
 
     /// A good list, with spare bytes or without.
     pub fn list(&self, random: &mut Random) -> Vec<u8> {
-        let list = self.filled_list(random);
+        let mut list = self.filled_list(random);
+        if let Some(attributes) = &self.conditions {
+            list = attributes.under_conditions(random, &list, MOST_TOKENS);
+        }
         if self.roomy && random.chance(1, 2) {
             return roomy(random, &list);
         }

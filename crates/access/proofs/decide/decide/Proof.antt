@@ -10,7 +10,7 @@ use lib.ListN.{length, drop}
 use Rattle.list.specs.Entry.{sizeOf}
 use Rattle.list.specs.Look.{lookOf}
 use Rattle.list.specs.declared.looks.Look.{Look}
-use Rattle.list.proofs.Places.{rest-is}
+use Rattle.octets.proofs.Places.{rest-is}
 use Rattle.access.specs.Held.{heldOf, toEnd}
 use Rattle.access.specs.Inner.Decide.{SidIn, leftAfter, turnWith}
 use Rattle.access.proofs.Turns.{Deciding, deciding-none, inside, sid-here, decides-yes, decides-end, decides-no, decides-on}
@@ -18,15 +18,15 @@ use Rattle.access.proofs.decide.decide.Statement.{statement}
 use Rattle.access.proofs.decide.decide.Tie as tie
 
 abbrev Inv-loop : tie.InvT-loop
-Inv-loop list rev n guid held wanted left₀ at₀ more₀ left at more = Deciding guid (heldOf held) rev list n wanted left at more
+Inv-loop list rev n guid held wanted table left₀ at₀ more₀ left at more = Deciding guid table (heldOf held) rev list n wanted left at more
 
 abbrev μ-loop : tie.MeasureT-loop
-μ-loop list rev n guid held wanted left₀ at₀ more₀ left at more = more
+μ-loop list rev n guid held wanted table left₀ at₀ more₀ left at more = more
 
 -- in a turn: the entry that comes next
 module _ (c : tie.Else1 Inv-loop μ-loop) where
   abbrev start : tie.Start Inv-loop μ-loop
-  start = c .before .before .before .before .before
+  start = c .before .before .before .before .before .before
 
   abbrev bytes : List ℕ
   bytes = now (start .args .list)
@@ -41,7 +41,7 @@ module _ (c : tie.Else1 Inv-loop μ-loop) where
   inside-here =
       let l = c .before .before .loop in
       let a = start .args in
-      inside (a .guid) sids (a .rev) bytes (a .n) (a .wanted) (l .left) (l .at) (l .more) (l .inv) (c .before .loop-test .taken) (omega arith)
+      inside (a .guid) (now (a .table)) sids (a .rev) bytes (a .n) (a .wanted) (l .left) (l .at) (l .more) (l .inv) (c .before .loop-test .taken) (omega arith)
 
 -- after the look: what it finds of that entry
 module _ (c : tie.After-look-at Inv-loop μ-loop) where
@@ -54,20 +54,20 @@ module _ (c : tie.After-look-at Inv-loop μ-loop) where
 -- and what the entry leaves
 left-here : (c : tie.After-turn-past Inv-loop μ-loop)
     → let t = turn (c .before .before) in
-    c .turn-past .result ≡ turnWith (leftAfter (start t .args .guid) (sids t) (t .before .before .loop .left) (next t))
+    c .turn-past .result ≡ turnWith (leftAfter (start t .args .guid) (now (start t .args .table)) (sids t) (t .before .before .loop .left) (next t))
 left-here c =
     let t = turn (c .before .before) in
     let l = t .before .before .loop in
-    c .turn-past .ensures ∙ ap (λ (u : List ℕ). turnWith (leftAfter (start t .args .guid) (sids t) (l .left) u)) (rest-is (bytes t) (l .at))
+    c .turn-past .ensures ∙ ap (λ (u : List ℕ). turnWith (leftAfter (start t .args .guid) (now (start t .args .table)) (sids t) (l .left) u)) (rest-is (bytes t) (l .at))
 
 loop-holds : tie.Need-loop-holds Inv-loop μ-loop
-loop-holds c = deciding-none _ _ _ _ _ _ (c .before .before .pre .0)
+loop-holds c = deciding-none _ _ _ _ _ _ _ (c .before .before .before .pre .0)
 
 returns : tie.Need-returns Inv-loop μ-loop
 returns c =
     let l = c .before .before .loop in
-    let a = c .before .before .before .before .before .args in
-    decides-end (a .guid) (heldOf (now (a .held))) (a .rev) (now (a .list)) (a .n) (a .wanted) (l .left) (l .at) (l .more) (l .inv) (c .before .loop-test .taken) (c .if1 .taken)
+    let a = c .before .before .before .before .before .before .args in
+    decides-end (a .guid) (now (a .table)) (heldOf (now (a .held))) (a .rev) (now (a .list)) (a .n) (a .wanted) (l .left) (l .at) (l .more) (l .inv) (c .before .loop-test .taken) (c .if1 .taken)
 
 sub-look-at : tie.Need-sub-look-at Inv-loop μ-loop
 sub-look-at c = omega (arith, inside-here c)
@@ -97,7 +97,7 @@ turn-past-requires c κs =
     let l = t .before .before .loop in
     let s = start t in
     let a = s .args in
-    let i = sid-here (a .guid) (sids t) (a .rev) (bytes t) (a .n) (a .wanted) (l .left) (l .at) (l .more) (l .inv) (t .before .loop-test .taken) (omega arith) in
+    let i = sid-here (a .guid) (now (a .table)) (sids t) (a .rev) (bytes t) (a .n) (a .wanted) (l .left) (l .at) (l .more) (l .inv) (t .before .loop-test .taken) (omega arith) in
     subst (λ (u : List ℕ). (k .look-at .result ≡ lookOf u) × SidIn u × (toEnd (now (a .held)) ≡ true)) (sym (rest-is (bytes t) (l .at)))
     (look-here k, i, s .pre .1)
 
@@ -110,7 +110,7 @@ returns-2 c =
     let t = turn (k .before .before) in
     let l = t .before .before .loop in
     let a = start t .args in
-    decides-no (a .guid) (sids t) (a .rev) (bytes t) (a .n) (a .wanted) (l .left) (l .at) (l .more) (l .inv) (t .before .loop-test .taken) (omega arith)
+    decides-no (a .guid) (now (a .table)) (sids t) (a .rev) (bytes t) (a .n) (a .wanted) (l .left) (l .at) (l .more) (l .inv) (t .before .loop-test .taken) (omega arith)
     (sym (left-here k) ∙ c .enum-told .given .1)
 
 enum-known-l : tie.Need-enum-known-l Inv-loop μ-loop
@@ -135,14 +135,14 @@ loop-again c =
     let t = turn j in
     let l = t .before .before .loop in
     let a = start t .args in
-    decides-on (a .guid) (sids t) (a .rev) (bytes t) (a .n) (a .wanted) (l .left) (l .at) (l .more) (l .inv) (t .before .loop-test .taken) (omega arith)
+    decides-on (a .guid) (now (a .table)) (sids t) (a .rev) (bytes t) (a .n) (a .wanted) (l .left) (l .at) (l .more) (l .inv) (t .before .loop-test .taken) (omega arith)
     (m .l .given .0 .0) (j .look-at .result .size) (sym (left-here k) ∙ m .l .given .1) (ap (λ (x : Look). x .size) (look-here j))
 
 returns-3 : tie.Need-returns-3 Inv-loop μ-loop
 returns-3 c =
     let l = c .before .loop in
-    let a = c .before .before .before .before .args in
-    decides-yes (a .guid) (heldOf (now (a .held))) (a .rev) (now (a .list)) (a .n) (a .wanted) (l .left) (l .at) (l .more) (l .inv) (c .loop-test .left)
+    let a = c .before .before .before .before .before .args in
+    decides-yes (a .guid) (now (a .table)) (heldOf (now (a .held))) (a .rev) (now (a .list)) (a .n) (a .wanted) (l .left) (l .at) (l .more) (l .inv) (c .loop-test .left)
 
 pub decide-spec : {M : Type 1} → statement M
 decide-spec =

@@ -6,7 +6,7 @@ use Prim.Native.Nat.{ℕ}
 use denote.Ref.{now}
 use lib.Bits.{bitAnd}
 use borrow.Author.Tests.{not-true, not-false}
-use Rattle.list.specs.Bytes.{sameBytes}
+use Rattle.octets.specs.Bytes.{sameBytes}
 use Rattle.list.specs.Entry.{objectKind, kindOf}
 use Rattle.access.proofs.Weighs.{plain-counts, untyped-counts, typed-counts}
 use Rattle.access.proofs.decide.type_counts.Statement.{statement}

@@ -4,7 +4,7 @@ use mathlib.Core.Path.{sym, ap, _∙_}
 use denote.Ref.{now}
 use Rattle.list.specs.declared.lists.Reading.{Reading}
 use Rattle.list.proofs.Answers.{checked}
-use Rattle.list.proofs.Places.{part-first}
+use Rattle.octets.proofs.Places.{part-first}
 use Rattle.access.specs.Walk.{walkedBy}
 use Rattle.access.proofs.steps.walked.Statement.{statement}
 use Rattle.access.proofs.steps.walked.Tie as tie

@@ -6,11 +6,11 @@ use mathlib.Core.List.{List}
 use Prim.Native.Nat.{ℕ, _+_, _≤_}
 use denote.Ref.{now}
 use lib.ListN.{length, drop, length-drop}
-use Rattle.list.specs.Bytes.{has}
+use Rattle.octets.specs.Bytes.{has}
 use Rattle.list.specs.Entry.{access, sizeOf}
 use Rattle.list.specs.Look.{lookOf}
 use Rattle.list.specs.declared.looks.Look.{Look}
-use Rattle.list.proofs.Places.{rest-is}
+use Rattle.octets.proofs.Places.{rest-is}
 use Rattle.list.proofs.Rows.{passes-turn}
 use Rattle.inherit.specs.Copies.{heritable}
 use Rattle.inherit.proofs.Search.{Searching, searching-none, searching-more, found, none-found}

@@ -5,7 +5,7 @@ use mathlib.Core.Path.{_≡_, sym, ap, _∙_}
 use mathlib.Core.Bool.{Bool, _||_}
 use Prim.Native.Nat.{_+_, _≤_, _-_}
 use lib.ListN.{length, take, drop}
-use Rattle.list.specs.Bytes.{among}
+use Rattle.octets.specs.Bytes.{among}
 use Rattle.inherit.proofs.Types.{among-step, among-end}
 use Rattle.inherit.proofs.copies.among.Statement.{statement}
 use Rattle.inherit.proofs.copies.among.Tie as tie

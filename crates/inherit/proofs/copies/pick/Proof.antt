@@ -3,7 +3,7 @@ use borrow.Author.Needs.{needs}
 use mathlib.Core.Path.{ap, _∙_}
 use mathlib.Core.Bool.{not, _&&_}
 use lib.Bits.{bitOr}
-use Rattle.list.specs.Bytes.{has}
+use Rattle.octets.specs.Bytes.{has}
 use Rattle.list.specs.declared.looks.Look.{Look}
 use Rattle.inherit.specs.Copies.{keptFlags, takesSecond}
 use Rattle.inherit.specs.Inner.Emit.{takesBy, flagsBy}

@@ -5,7 +5,7 @@ use mathlib.Core.Bool.{true, false, cond, _&&_}
 use borrow.Author.Tests.{not-true, not-false}
 use denote.Ref.{now}
 use lib.ListN.{take}
-use Rattle.list.specs.Bytes.{guidAt, has, among}
+use Rattle.octets.specs.Bytes.{guidAt, has, among}
 use Rattle.list.specs.Entry.{objectKind, flagsOf}
 use Rattle.list.specs.declared.looks.Look.{Look}
 use Rattle.inherit.specs.Copies.{takesFirst, typeApplies}

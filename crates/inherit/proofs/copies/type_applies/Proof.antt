@@ -5,7 +5,7 @@ use mathlib.Core.List.{List}
 use Prim.Native.Nat.{ℕ}
 use borrow.Author.Tests.{not-true, not-false, eq-eqb, ne-eqb}
 use lib.ListN.{take}
-use Rattle.list.specs.Bytes.{among}
+use Rattle.octets.specs.Bytes.{among}
 use Rattle.inherit.proofs.copies.type_applies.Statement.{statement}
 use Rattle.inherit.proofs.copies.type_applies.Tie as tie
 

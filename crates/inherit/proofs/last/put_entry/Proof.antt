@@ -6,9 +6,9 @@ use mathlib.Core.List.{List, _++_, append-assoc}
 use Prim.Native.Nat.{ℕ, _+_}
 use denote.Ref.{now}
 use lib.ListN.{length, length-append}
-use Rattle.list.specs.Bytes.{front}
+use Rattle.octets.specs.Bytes.{front}
 use Rattle.list.specs.Entry.{EntryParts}
-use Rattle.list.proofs.Writes.{tail-put}
+use Rattle.octets.proofs.Writes.{tail-put}
 use Rattle.inherit.proofs.Lying.{headPart, length-head, head-then}
 use Rattle.inherit.proofs.last.put_entry.Statement.{statement}
 use Rattle.inherit.proofs.last.put_entry.Tie as tie

@@ -5,7 +5,7 @@ use mathlib.Core.List.{[], _∷_, _++_}
 use denote.Ref.{now}
 use lib.ListN.{length-set}
 use lib.Seq.{sets-eq}
-use Rattle.list.specs.Bytes.{spell}
+use Rattle.octets.specs.Bytes.{spell}
 use Rattle.inherit.proofs.last.put_head.Statement.{statement}
 use Rattle.inherit.proofs.last.put_head.Tie as tie
 

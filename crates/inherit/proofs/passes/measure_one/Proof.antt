@@ -13,7 +13,7 @@ use lib.Dec.{eqb}
 use lib.Seq.{getD-drop}
 use Rattle.list.specs.Entry.{access, objectKind, sizeOf}
 use Rattle.list.specs.declared.looks.Look.{Look}
-use Rattle.list.proofs.Little.{le-lt}
+use Rattle.octets.proofs.Little.{le-lt}
 use Rattle.list.proofs.Remade.{bounds}
 use Rattle.inherit.specs.Asked.{Given}
 use Rattle.inherit.specs.Inner.Emit.{givenBy, copyLength, timesOf}

@@ -5,12 +5,12 @@ use mathlib.Core.List.{List}
 use Prim.Native.Nat.{ℕ, _+_, _-_, _≤_}
 use denote.Ref.{now}
 use lib.ListN.{length, take, drop}
-use Rattle.list.specs.Bytes.{Bytes}
+use Rattle.octets.specs.Bytes.{Bytes}
 use Rattle.list.specs.Entry.{access, sizeOf}
 use Rattle.list.specs.Good.{Sound}
-use Rattle.list.proofs.Little.{le-lt, bytes-drop}
+use Rattle.octets.proofs.Little.{le-lt, bytes-drop}
 use Rattle.inherit.specs.declared.passes.Measure.{Measure}
-use Rattle.list.proofs.Places.{rest-is}
+use Rattle.octets.proofs.Places.{rest-is}
 use Rattle.inherit.specs.Asked.{Given}
 use Rattle.inherit.specs.Inner.Emit.{givenBy, measureFrom}
 use Rattle.inherit.proofs.Loops.{next-entry, inside, Measuring, measuring-none, few, measuring-turn, measured-all}

@@ -6,9 +6,9 @@ use mathlib.Core.List.{List}
 use Prim.Native.Nat.{ℕ, _+_, _-_}
 use denote.Ref.{now}
 use lib.ListN.{length, take, drop}
-use Rattle.list.specs.Bytes.{front}
+use Rattle.octets.specs.Bytes.{front}
 use Rattle.list.specs.Entry.{EntryParts, entryBytes}
-use Rattle.list.proofs.Writes.{tail-put}
+use Rattle.octets.proofs.Writes.{tail-put}
 use Rattle.inherit.specs.Inner.Emit.{copyParts}
 use Rattle.inherit.proofs.Lying.{headPart, length-head, cutParts, Kept, kept, Cut, cut}
 use Rattle.inherit.proofs.passes.put_copy.Statement.{statement}

@@ -8,7 +8,7 @@ use Prim.Native.Nat.{ℕ}
 use borrow.Author.Tests.{not-true, not-false}
 use denote.Ref.{now}
 use lib.ListN.{length}
-use Rattle.list.specs.Bytes.{front}
+use Rattle.octets.specs.Bytes.{front}
 use Rattle.list.specs.Entry.{access, sizeOf}
 use Rattle.list.specs.declared.looks.Look.{Look}
 use Rattle.list.proofs.Remade.{bounds}

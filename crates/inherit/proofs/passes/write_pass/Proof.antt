@@ -5,10 +5,10 @@ use mathlib.Core.List.{List, flatten}
 use Prim.Native.Nat.{ℕ, _+_, _-_, _≤_}
 use denote.Ref.{now}
 use lib.ListN.{length, take, drop, length-drop}
-use Rattle.list.specs.Bytes.{front}
+use Rattle.octets.specs.Bytes.{front}
 use Rattle.list.specs.Entry.{access, sizeOf}
 use Rattle.list.specs.Good.{Sound}
-use Rattle.list.proofs.Places.{rest-is}
+use Rattle.octets.proofs.Places.{rest-is}
 use Rattle.inherit.specs.Asked.{Given}
 use Rattle.inherit.specs.Inner.Emit.{givenBy, emitOf}
 use Rattle.inherit.proofs.Loops.{next-entry, inside, Writing, writing-none, to-fits, long, one-fits, writing-turn, written-all}

@@ -1,5 +1,5 @@
 -- Rule 1 or 2. Assumes nothing.
-use Rattle.list.proofs.Tests.{tests}
+use Rattle.octets.proofs.Tests.{tests}
 use Rattle.inherit.specs.Compute.{ruleOk}
 use Rattle.inherit.proofs.tests.rule_ok.Statement.{statement}
 use Rattle.inherit.proofs.tests.rule_ok.Tie as tie

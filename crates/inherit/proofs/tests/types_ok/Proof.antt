@@ -1,5 +1,5 @@
 -- Too many bytes, or a multiple of 16. Assumes nothing.
-use Rattle.list.proofs.Tests.{tests}
+use Rattle.octets.proofs.Tests.{tests}
 use Rattle.inherit.specs.Asked.{typesOk}
 use Rattle.inherit.proofs.tests.types_ok.Statement.{statement}
 use Rattle.inherit.proofs.tests.types_ok.Tie as tie

@@ -8,7 +8,7 @@ use denote.Ref.{now}
 use lib.ListN.{length, drop, length-drop}
 use lib.Seq.{length-take-le}
 use Rattle.list.specs.List.{headBytes}
-use Rattle.list.proofs.Writes.{length-front, tail-front}
+use Rattle.octets.proofs.Writes.{length-front, tail-front}
 use Rattle.list.proofs.Parts.{length-head}
 use Rattle.inherit.specs.declared.passes.Measure.{Measure}
 use Rattle.inherit.specs.Asked.{Given}

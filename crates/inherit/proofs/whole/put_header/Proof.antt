@@ -7,7 +7,7 @@ use Prim.Native.Nat.{ℕ, _/_, _%_}
 use denote.Ref.{now}
 use lib.ListN.{length-set}
 use lib.Seq.{sets-eq}
-use Rattle.list.specs.Bytes.{front}
+use Rattle.octets.specs.Bytes.{front}
 use Rattle.list.proofs.Parts.{head-is}
 use Rattle.inherit.proofs.whole.put_header.Statement.{statement}
 use Rattle.inherit.proofs.whole.put_header.Tie as tie

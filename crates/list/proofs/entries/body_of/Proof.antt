@@ -1,15 +1,15 @@
 -- Each return is a case of `entryOf` past (a) to (c), by the tests that led there. Assumes nothing.
 use borrow.Author.Needs.{needs}
 use native.Mathlib.Omega.{arith}
-use mathlib.Core.Path.{_≡_, sym, ap, _∙_}
+use mathlib.Core.Path.{_≡_, refl, sym, ap, _∙_}
 use mathlib.Core.List.{List}
 use Prim.Native.Nat.{ℕ, _+_}
 use denote.Ref.{now}
 use lib.ListN.{drop}
 use borrow.Author.Tests.{eq-eqb, ne-eqb}
-use Rattle.list.specs.Entry.{access, tailOk, wordAfter, wordOf, guidsOf, sidAt, sidLenOf, sidEnd}
+use Rattle.list.specs.Entry.{access, wordAfter, wordOf, guidsOf, sidAt, sidLenOf, sidEnd}
 use Rattle.list.proofs.Sids.{sid-most}
-use Rattle.list.proofs.Cases.{bad-d, bad-e, bad-f, bad-g, bad-h, good}
+use Rattle.list.proofs.Cases.{bad-d, bad-e, bad-f, bad-g, bad-tail, no-fault, good}
 use Rattle.list.proofs.entries.body_of.Statement.{statement}
 use Rattle.list.proofs.entries.body_of.Tie as tie
 
@@ -80,35 +80,37 @@ returns-4 c =
     λ rev b. let w = word-is (sid .before .before .before) in let s = sid-is sid in
     bad-g access rev (bytes sid) b (omega arith) (omega arith) (omega arith) (omega arith)
 
-add-if5 : tie.Need-add-if5
-add-if5 c =
+add-tail-fault : tie.Need-add-tail-fault
+add-tail-fault c =
     let t = bytes (c .before) in
     omega (arith, sid-is (c .before), sid-most (drop (sidAt t) t))
 
+tail-fault-requires : tie.Need-tail-fault-requires
+tail-fault-requires c κs =
+    let a = c .before .before .before .before .before .before .before .before .before in
+    (refl, ends-is (c .before), a .pre .1, a .pre .2)
+
 returns-5 : tie.Need-returns-5
-unfolding tailOk
 returns-5 c =
-    let sid = c .before .before in
-    let size-is = sid .before .before .before .before .before .before .before .before .pre .1 in
+    let sid = c .before .before .before in
+    let e = c .before .tail-fault .ensures in
     λ rev b. let w = word-is (sid .before .before .before) in let s = sid-is sid in
-    bad-h access rev (bytes sid) b (omega arith) (omega arith) (omega arith) (omega arith)
-    (ne-eqb _ _ (λ e. c .if5 .taken (ends-is sid ∙ e ∙ sym size-is)))
+    rw e (bad-tail access rev (bytes sid) b (omega arith) (omega arith) (omega arith) (omega arith) (λ z. c .if5 .taken (e ∙ z)))
 
-shared-slice-read-t9 : tie.Need-shared-slice-read-t9
-shared-slice-read-t9 c = search needs
+shared-slice-read-t10 : tie.Need-shared-slice-read-t10
+shared-slice-read-t10 c = search needs
 
-word-at-requires : tie.Need-word-at-requires
-word-at-requires c κs = search needs
+word-in-requires : tie.Need-word-in-requires
+word-in-requires c κs = search needs
 
 returns-6 : tie.Need-returns-6
-unfolding tailOk
 returns-6 c =
-    let sid = c .before .before .before .before in
+    let sid = c .before .before .before .before .before in
     let size-is = sid .before .before .before .before .before .before .before .before .pre .1 in
+    let fine = no-fault (bytes sid) (sym (c .before .before .before .tail-fault .ensures) ∙ c .before .before .if5 .left) in
     λ rev b. let w = word-is (sid .before .before .before) in let s = sid-is sid in
-    rw (s, w, sid .before .before .before .before .before .head-len .ensures, size-is, c .word-at .ensures)
-    (good access rev (bytes sid) b (omega arith) (omega arith) (omega arith) (omega arith)
-    (eq-eqb _ _ (sym (ends-is sid) ∙ c .before .before .if5 .left ∙ size-is)))
+    rw (s, w, sid .before .before .before .before .before .head-len .ensures, size-is, c .word-in .ensures)
+    (good access rev (bytes sid) b (omega arith) (omega arith) (omega arith) (omega arith) (fine .0) (fine .1))
 
 pub body-of-spec : {M : Type 1} → statement M
 body-of-spec =
@@ -127,8 +129,9 @@ body-of-spec =
     returns-3
     sid-at-requires
     returns-4
-    add-if5
+    add-tail-fault
+    tail-fault-requires
     returns-5
-    shared-slice-read-t9
-    word-at-requires
+    shared-slice-read-t10
+    word-in-requires
     returns-6)

@@ -18,8 +18,8 @@ returns c =
     let a = c .before .before .args in
     bad-a access (a .rev) (now (a .t)) (omega arith)
 
-half-at-requires : tie.Need-half-at-requires
-half-at-requires c κs = search needs
+half-in-requires : tie.Need-half-in-requires
+half-in-requires c κs = search needs
 
 cast-size : tie.Need-cast-size
 cast-size c = search needs
@@ -64,7 +64,7 @@ entry-of-spec =
     tie.close
     (tie.spec
     returns
-    half-at-requires
+    half-in-requires
     cast-size
     returns-2
     shared-slice-read-kind-ok

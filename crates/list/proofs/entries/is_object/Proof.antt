@@ -1,5 +1,5 @@
 -- Each return is a row of the table. Assumes nothing.
-use Rattle.list.proofs.Tests.{tests}
+use Rattle.octets.proofs.Tests.{tests}
 use Rattle.list.specs.Entry.{objectOf, objectKind}
 use Rattle.list.proofs.entries.is_object.Statement.{statement}
 use Rattle.list.proofs.entries.is_object.Tie as tie

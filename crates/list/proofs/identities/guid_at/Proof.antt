@@ -8,8 +8,8 @@ use denote.Ref.{now}
 use lib.ListN.{length, take, drop, replicate, length-drop}
 use lib.Seq.{length-take-le}
 use borrow.Author.Tests.{le-leb, lt-leb}
-use Rattle.list.specs.Bytes.{putOn, guidAt}
-use Rattle.list.proofs.Writes.{front-all, put-all}
+use Rattle.octets.specs.Bytes.{putOn, guidAt}
+use Rattle.octets.proofs.Writes.{front-all, put-all}
 use Rattle.list.proofs.identities.guid_at.Statement.{statement}
 use Rattle.list.proofs.identities.guid_at.Tie as tie
 

@@ -3,7 +3,7 @@ use borrow.Author.Needs.{needs}
 use mathlib.Core.Path.{_≡_, sym, _∙_}
 use denote.Ref.{now}
 use mathlib.Core.Bool.{true, false}
-use Rattle.list.specs.Bytes.{sameBytes}
+use Rattle.octets.specs.Bytes.{sameBytes}
 use Rattle.list.specs.Identity.{creator, placeholderOf}
 use Rattle.list.proofs.identities.placeholder_of.Statement.{statement}
 use Rattle.list.proofs.identities.placeholder_of.Tie as tie

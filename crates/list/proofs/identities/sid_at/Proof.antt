@@ -2,7 +2,7 @@
 use borrow.Author.Needs.{needs}
 use native.Mathlib.Nat.{add-zero}
 use lib.Seq.{getD-drop}
-use Rattle.list.proofs.Tests.{tests}
+use Rattle.octets.proofs.Tests.{tests}
 use Rattle.list.specs.Identity.{sidLen}
 use Rattle.list.proofs.identities.sid_at.Statement.{statement}
 use Rattle.list.proofs.identities.sid_at.Tie as tie

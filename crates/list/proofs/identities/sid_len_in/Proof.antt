@@ -7,8 +7,8 @@ use Prim.Native.Nat.{ℕ}
 use denote.Ref.{now}
 use lib.ListN.{length, drop, getD, List·getD-eq-default}
 use lib.Seq.{getD-drop}
-use Rattle.list.proofs.Tests.{tests}
-use Rattle.list.proofs.Places.{split}
+use Rattle.octets.proofs.Tests.{tests}
+use Rattle.octets.proofs.Places.{split}
 use Rattle.list.specs.Identity.{sidLen}
 use Rattle.list.proofs.identities.sid_len_in.Statement.{statement}
 use Rattle.list.proofs.identities.sid_len_in.Tie as tie

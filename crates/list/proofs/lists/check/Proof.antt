@@ -12,7 +12,7 @@ use Rattle.list.specs.Entry.{access}
 use Rattle.list.specs.List.{headerOk, revOf, walkOf, finish}
 use Rattle.list.specs.Answer.{readingValues}
 use Rattle.list.specs.Good.{Header}
-use Rattle.list.proofs.Little.{le-lt}
+use Rattle.octets.proofs.Little.{le-lt}
 use Rattle.list.proofs.Walks.{header}
 use Rattle.list.proofs.Told.{check-header, check-walk}
 use Rattle.list.proofs.lists.check.Statement.{statement}
@@ -33,8 +33,8 @@ returns c = ap readingValues (sym (check-header access _ (sym (c .before .header
 shared-slice-read-walk : tie.Need-shared-slice-read-walk
 shared-slice-read-walk c = omega (arith, head-is (c .before))
 
-half-at-requires : tie.Need-half-at-requires
-half-at-requires c κs = omega (arith, head-is (c .before))
+half-in-requires : tie.Need-half-in-requires
+half-in-requires c κs = omega (arith, head-is (c .before))
 
 walk-requires : tie.Need-walk-requires
 walk-requires c κs =
@@ -46,7 +46,7 @@ returns-2 c =
     let s = now (c .before .before .before .before .before .before .args .list) in
     ap readingValues
     (c .walk .ensures
-    ∙ ap (λ (n : ℕ). walkOf access (revOf s) n 8 (drop 8 s) (finish (length s) n)) (c .before .half-at .ensures)
+    ∙ ap (λ (n : ℕ). walkOf access (revOf s) n 8 (drop 8 s) (finish (length s) n)) (c .before .half-in .ensures)
     ∙ sym (check-walk access s (head-yes (c .before .before .before))))
 
 pub check-spec : {M : Type 1} → statement M
@@ -56,6 +56,6 @@ check-spec =
     header-ok-requires
     returns
     shared-slice-read-walk
-    half-at-requires
+    half-in-requires
     walk-requires
     returns-2)

@@ -9,7 +9,7 @@ use lib.Seq.{getD-drop, drop-drop}
 use Rattle.list.specs.Entry.{access, sizeOf}
 use Rattle.list.specs.List.{revOf}
 use Rattle.list.specs.Good.{Sound}
-use Rattle.list.proofs.Little.{le-lt}
+use Rattle.octets.proofs.Little.{le-lt}
 use Rattle.list.proofs.Rows.{Filled, filled-none, filled-more, filled-all, next}
 use Rattle.list.proofs.lists.fill.Statement.{statement}
 use Rattle.list.proofs.lists.fill.Tie as tie
@@ -31,9 +31,9 @@ entry-here : (c : tie.In-loop Inv-loop μ-loop)
     → let s = now (c .before .before .before .before .args .list) in Sound access (revOf s) (drop (c .before .loop .at) s)
 entry-here c = next access _ _ _ _ _ _ (c .before .loop .inv) (c .loop-test .taken) .0
 
-size-is : (c : tie.After-half-at Inv-loop μ-loop)
-    → c .half-at .result ≡ sizeOf (drop (c .before .before .loop .at) (now (c .before .before .before .before .before .args .list)))
-size-is c = c .half-at .ensures ∙ simp drop-drop
+size-is : (c : tie.After-half-in Inv-loop μ-loop)
+    → c .half-in .result ≡ sizeOf (drop (c .before .before .loop .at) (now (c .before .before .before .before .before .args .list)))
+size-is c = c .half-in .ensures ∙ simp drop-drop
 
 loop-holds : tie.Need-loop-holds Inv-loop μ-loop
 loop-holds c = filled-none access _ _ _ (c .before .before .pre .0)
@@ -47,11 +47,11 @@ mul-row c = omega arith
 slice-write-row : tie.Need-slice-write-row Inv-loop μ-loop
 slice-write-row c = omega arith
 
-add-half-at : tie.Need-add-half-at Inv-loop μ-loop
-add-half-at c = omega (arith, small (c .before))
+add-half-in : tie.Need-add-half-in Inv-loop μ-loop
+add-half-in c = omega (arith, small (c .before))
 
-half-at-requires : tie.Need-half-at-requires Inv-loop μ-loop
-half-at-requires c κs = omega (arith, entry-here c .four, length-drop (c .before .loop .at) (now (c .before .before .before .before .args .list)))
+half-in-requires : tie.Need-half-in-requires Inv-loop μ-loop
+half-in-requires c κs = omega (arith, entry-here c .four, length-drop (c .before .loop .at) (now (c .before .before .before .before .args .list)))
 
 cast-at : tie.Need-cast-at Inv-loop μ-loop
 cast-at c = search needs
@@ -84,8 +84,8 @@ fill-spec =
     cast-row
     mul-row
     slice-write-row
-    add-half-at
-    half-at-requires
+    add-half-in
+    half-in-requires
     cast-at
     add-at
     add-i

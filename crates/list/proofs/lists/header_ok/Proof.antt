@@ -37,8 +37,8 @@ returns-3 c =
     let s = now (c .before .before .before .before .before .before .before .args .list) in
     sym (bad-zero s (omega arith) (rev-yes (c .before .before)) (c .if3 .taken))
 
-half-at-requires : tie.Need-half-at-requires
-half-at-requires c κs = search needs
+half-in-requires : tie.Need-half-in-requires
+half-in-requires c κs = search needs
 
 cast-if4 : tie.Need-cast-if4
 cast-if4 c = search needs
@@ -46,16 +46,16 @@ cast-if4 c = search needs
 returns-4 : tie.Need-returns-4
 returns-4 c =
     let s = now (c .before .before .before .before .before .before .before .before .before .args .list) in
-    sym (bad-size s (omega arith) (rev-yes (c .before .before .before .before)) (omega arith) (λ x. c .if4 .taken (c .before .half-at .ensures ∙ x)))
+    sym (bad-size s (omega arith) (rev-yes (c .before .before .before .before)) (omega arith) (λ x. c .if4 .taken (c .before .half-in .ensures ∙ x)))
 
-half-at-requires-2 : tie.Need-half-at-requires-2
-half-at-requires-2 c κs = search needs
+half-in-requires-2 : tie.Need-half-in-requires-2
+half-in-requires-2 c κs = search needs
 
 returns-5 : tie.Need-returns-5
 returns-5 c =
     let s = now (c .before .before .before .before .before .before .before .before .before .before .args .list) in
     let r = rev-yes (c .before .before .before .before .before) in
-    ap (λ (n : ℕ). eqb n 0) (c .half-at2 .ensures) ∙ sym (last-test s (omega arith) r (omega arith) (omega arith))
+    ap (λ (n : ℕ). eqb n 0) (c .half-in2 .ensures) ∙ sym (last-test s (omega arith) r (omega arith) (omega arith))
 
 pub header-ok-spec : {M : Type 1} → statement M
 header-ok-spec =
@@ -67,8 +67,8 @@ header-ok-spec =
     returns-2
     shared-slice-read-if3
     returns-3
-    half-at-requires
+    half-in-requires
     cast-if4
     returns-4
-    half-at-requires-2
+    half-in-requires-2
     returns-5)

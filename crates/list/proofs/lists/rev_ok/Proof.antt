@@ -1,5 +1,5 @@
 -- Revision 2 or 4. Assumes nothing.
-use Rattle.list.proofs.Tests.{tests}
+use Rattle.octets.proofs.Tests.{tests}
 use Rattle.list.specs.List.{revOk}
 use Rattle.list.proofs.lists.rev_ok.Statement.{statement}
 use Rattle.list.proofs.lists.rev_ok.Tie as tie

@@ -6,7 +6,7 @@ use mathlib.Core.List.{List}
 use Prim.Native.Nat.{ℕ, _≤_}
 use denote.Ref.{now}
 use lib.ListN.{length, take, length-take}
-use Rattle.list.specs.Bytes.{front}
+use Rattle.octets.specs.Bytes.{front}
 use Rattle.script.specs.Fold.{runOf}
 use Rattle.script.proofs.Folds.{run-used}
 use Rattle.script.proofs.Pulls.{first-part, rest-part}

@@ -4,7 +4,7 @@ use native.Mathlib.Omega.{arith}
 use mathlib.Core.Path.{ap₂, _∙_}
 use denote.Ref.{now}
 use borrow.Author.Tests.{eq-eqb, ne-eqb}
-use Rattle.list.specs.Bytes.{sameBytes}
+use Rattle.octets.specs.Bytes.{sameBytes}
 use Rattle.tree.specs.Held.{parentByteIn, kindByte, alike}
 use Rattle.tree.proofs.held.alike.Statement.{statement}
 use Rattle.tree.proofs.held.alike.Tie as tie

@@ -5,7 +5,7 @@ use mathlib.Core.Path.{_≡_, ap, _∙_}
 use mathlib.Core.Bool.{true}
 use denote.Ref.{now}
 use borrow.Author.Tests.{le-leb, lt-leb}
-use Rattle.list.specs.Bytes.{part}
+use Rattle.octets.specs.Bytes.{part}
 use Rattle.tree.specs.Held.{slotOk, idOk, kindByte, markByte, blockOk}
 use Rattle.tree.proofs.Tested.{refused, passed}
 use Rattle.tree.proofs.held.block_ok.Statement.{statement}

@@ -5,7 +5,7 @@ use mathlib.Core.Path.{ap, _∙_}
 use denote.Ref.{now}
 use lib.ListN.{getD, drop}
 use borrow.Author.Tests.{eq-eqb, ne-eqb, le-leb, lt-leb}
-use Rattle.list.specs.Bytes.{le}
+use Rattle.octets.specs.Bytes.{le}
 use Rattle.list.specs.Entry.{access}
 use Rattle.list.specs.List.{checkOf}
 use Rattle.list.proofs.Answers.{checked}

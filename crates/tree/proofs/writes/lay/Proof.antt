@@ -1,7 +1,7 @@
 -- What `put` leaves on the tail from the place on, by the law of Places. Assumes nothing.
 use borrow.Author.Needs.{needs}
 use denote.Ref.{now}
-use Rattle.list.proofs.Places.{put-tail}
+use Rattle.octets.proofs.Places.{put-tail}
 use Rattle.tree.proofs.writes.lay.Statement.{statement}
 use Rattle.tree.proofs.writes.lay.Tie as tie
 

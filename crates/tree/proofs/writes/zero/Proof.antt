@@ -4,8 +4,8 @@ use native.Mathlib.Omega.{arith}
 use mathlib.Core.Path.{_≡_, refl, sym}
 use Prim.Native.Nat.{_≤_, _-_}
 use lib.ListN.{length, replicate, length-set}
-use Rattle.list.specs.Bytes.{putAt}
-use Rattle.list.proofs.Places.{put-nil}
+use Rattle.octets.specs.Bytes.{putAt}
+use Rattle.octets.proofs.Places.{put-nil}
 use Rattle.tree.proofs.Lays.{zero-more}
 use Rattle.tree.proofs.writes.zero.Statement.{statement}
 use Rattle.tree.proofs.writes.zero.Tie as tie

@@ -10,7 +10,7 @@ use denote.Ref.{now}
 use lib.ListN.{length, replicate}
 use Rattle.list.specs.Identity.{madeOf}
 use Rattle.list.specs.declared.identities.Made.{Made}
-use Rattle.list.proofs.Writes.{put-all}
+use Rattle.octets.proofs.Writes.{put-all}
 use Rattle.list.proofs.Sids.{one-sid, sid-most}
 use Rattle.list.proofs.identities.Sid.from_bytes.Statement.{statement}
 use Rattle.list.proofs.identities.Sid.from_bytes.Tie as tie

@@ -1,0 +1,13 @@
+pub mod Marks
+pub mod Effects
+pub mod Records
+pub mod Signs
+pub mod Keys
+pub mod Stack
+pub mod Turns
+pub mod Loops
+pub mod Trees
+pub mod Ends
+pub mod Attributes
+pub mod Determined
+pub mod Examples

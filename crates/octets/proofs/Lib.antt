@@ -1,0 +1,9 @@
+pub mod Little
+pub mod Writes
+pub mod Places
+pub mod Same
+pub mod Tests
+pub mod Bits
+pub mod Determinacy
+pub mod Determined
+pub mod Examples
