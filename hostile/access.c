@@ -4,12 +4,16 @@
 
 #include "lend.h"
 #include "make.h"
+#include "conditions.h"
 #include "cases.h"
 #include "spare.h"
 
 enum { INHERIT_ONLY = 8, HELD_MOST = 32, WALK_MOST = 64 };
 
-uint64_t decisions[DECISIONS], entry_steps, last_steps;
+uint64_t decisions[DECISIONS], conditions[CONDITIONS], entry_steps, last_steps;
+
+/* Whether it is pt_may_open_with that is asked. */
+static int has_table;
 
 /* What pt_read says of the first list, whatever its count. */
 static uint16_t row[65536];
@@ -18,17 +22,6 @@ static uint32_t said[8];
 static void read_first(const uint8_t *list, size_t len)
 {
     pt_read(list, len, row, 65536, said);
-}
-
-/* In an entry that reads as done: where its SID begins, and how long it is. */
-static size_t sid_at(const uint8_t *entry)
-{
-    return entry[0] > 1 ? 12u + 16u * (entry[8] & 1) + 16u * (entry[8] >> 1) : 8;
-}
-
-static size_t sid_len(const uint8_t *entry)
-{
-    return 8 + 4u * entry[sid_at(entry) + 1];
 }
 
 /* One of the list's entries; null where it has none, or is refused. */
@@ -104,7 +97,7 @@ static void lend_type(void)
 {
     uint8_t *type = lent[TYPES].before;
     const uint8_t *entry = choose_entry();
-    int has_type = entry && entry[0] > 1 && entry[8];
+    int has_type = entry && is_object(entry) && entry[8];
 
     if (has_type && chance(2)) {
         lend_part(TYPES, FIRST, (size_t)(entry - lent[FIRST].before) + 12, 16);
@@ -138,7 +131,11 @@ static uint32_t choose_wanted(void)
 
 static void ask(uint32_t has_list, Bytes list, uint32_t wanted, uint32_t *to)
 {
-    pt_may_open(has_list, list.at, list.len, lent[TYPES].at, lent[HELD].at, lent[HELD].len, wanted, to);
+    if (has_table)
+        pt_may_open_with(has_list, list.at, list.len, lent[TYPES].at, lent[HELD].at, lent[HELD].len, wanted, lent[TABLE].at,
+                         lent[TABLE].len, to);
+    else
+        pt_may_open(has_list, list.at, list.len, lent[TYPES].at, lent[HELD].at, lent[HELD].len, wanted, to);
 }
 
 /* How many SIDs are held; -1 where the bytes aren't SIDs to their end. */
@@ -173,11 +170,36 @@ static int is_held(const uint8_t *sid, size_t len)
 
 static int counts(const uint8_t *entry)
 {
-    int has_type = entry[0] > 1 && entry[8] & 1;
+    int has_type = is_object(entry) && entry[8] & 1;
 
     if (entry[1] & INHERIT_ONLY || (has_type && memcmp(entry + 12, lent[TYPES].before, 16)))
         return 0;
     return is_held(entry + sid_at(entry), sid_len(entry));
+}
+
+static int is_deny(const uint8_t *entry)
+{
+    return entry[0] == 1 || entry[0] == 6 || entry[0] == 10;
+}
+
+/* Whether a conditional entry is one for this question, by what its expression comes to by itself; which is counted. */
+static int applies(const uint8_t *entry)
+{
+    const uint8_t *expression = entry + sid_at(entry) + sid_len(entry);
+    uint32_t a[8];
+    int which;
+
+    pt_evaluate(expression, (size_t)(entry + get16(entry + 2) - expression), lent[TABLE].at, has_table ? lent[TABLE].len : 0, a);
+    if (a[0] || a[3] > 2)
+        fault("the list reads as done, but an expression in it comes to number %u, %u", a[0], a[3]);
+    if (a[3] == 0)
+        which = PASSED_FALSE;
+    else if (a[3] == 1)
+        which = is_deny(entry) ? DENY_TRUE : ALLOW_TRUE;
+    else
+        which = is_deny(entry) ? DENY_UNKNOWN : PASSED_UNKNOWN;
+    conditions[which]++;
+    return which != PASSED_FALSE && which != PASSED_UNKNOWN;
 }
 
 /* Each wanted bit is decided by the first entry that counts and has it. */
@@ -187,9 +209,9 @@ static int expected_decision(uint32_t wanted)
 
     for (i = 0; i < said[5] && wanted; i++) {
         const uint8_t *entry = lent[FIRST].before + row[i];
-        if (!(get32(entry + 4) & wanted) || !counts(entry))
+        if (!(get32(entry + 4) & wanted) || !counts(entry) || (is_conditional(entry) && !applies(entry)))
             continue;
-        if (entry[0] == 1 || entry[0] == 6)
+        if (is_deny(entry))
             return DENIED;
         wanted &= ~get32(entry + 4);
     }
@@ -205,7 +227,11 @@ static uint32_t expected_number(uint32_t has_list, uint32_t wanted)
         return PT_GENERIC;
     if (has_list && said[0])
         return said[0];
-    return held < 0 ? PT_IDENTITY : held > HELD_MOST ? PT_TYPES : PT_DONE;
+    if (held < 0)
+        return PT_IDENTITY;
+    if (held > HELD_MOST)
+        return PT_TYPES;
+    return has_table && !is_table(lent[TABLE].before, lent[TABLE].len) ? PT_TABLE : PT_DONE;
 }
 
 /* Both parts of what is wanted, which may overlap, are a yes exactly where the whole is. */
@@ -264,7 +290,17 @@ static void check_spare(uint32_t has_list, uint32_t wanted)
         fault("number %u, %u; %u, %u without spare bytes and %u, %u with others", a[0], a[3], cut[0], cut[3], other[0], other[3]);
 }
 
-uint32_t case_may_open(void)
+/* Without a table it is an empty one. */
+static void check_empty_table(uint32_t has_list, uint32_t wanted)
+{
+    uint32_t with[8];
+
+    pt_may_open_with(has_list, lent[FIRST].at, lent[FIRST].len, lent[TYPES].at, lent[HELD].at, lent[HELD].len, wanted, NULL, 0, with);
+    if (memcmp(with, answer(), 32))
+        fault("number %u, %u, and with an empty table %u, %u", answer()[0], answer()[3], with[0], with[3]);
+}
+
+static uint32_t question(void)
 {
     uint32_t has_list = chance(8) ? 0 : 1u << pick(32), wanted;
     const uint32_t *a;
@@ -272,6 +308,8 @@ uint32_t case_may_open(void)
     lend_asked();
     lend_held();
     lend_type();
+    if (has_table)
+        lend_table();
     lend_answer();
     a = answer();
     wanted = choose_wanted();
@@ -291,7 +329,21 @@ uint32_t case_may_open(void)
         check_parts(has_list, wanted);
     check_absent(wanted);
     check_spare(has_list, wanted);
+    if (!has_table)
+        check_empty_table(has_list, wanted);
     return a[0];
+}
+
+uint32_t case_may_open(void)
+{
+    has_table = 0;
+    return question();
+}
+
+uint32_t case_may_open_with(void)
+{
+    has_table = 1;
+    return question();
 }
 
 /* Where an entry begins, beside it, where the entries end, and numbers that only look like it in 16 bits. */
@@ -313,15 +365,16 @@ static uint32_t choose_place(void)
     }
 }
 
-/* An entry's fields are the list's own bytes, and its SID ends where it does. */
+/* An entry's fields are the list's own bytes, and its SID ends where it does, but before an expression. */
 static void check_entry(uint32_t at, const uint32_t *fields)
 {
     const uint8_t *entry = lent[FIRST].before + at;
-    uint32_t size = get16(entry + 2), word = entry[0] > 1 ? get32(entry + 8) : 0;
+    uint32_t size = get16(entry + 2), word = is_object(entry) ? get32(entry + 8) : 0;
 
     if (fields[0] != entry[0] || fields[1] != entry[1] || fields[2] != size || fields[3] != get32(entry + 4) || fields[4] != word)
         fault("the entry at %u is given as %02X %02X, %u bytes, %08X, word %u", at, fields[0], fields[1], fields[2], fields[3], fields[4]);
-    if (fields[5] != sid_at(entry) || fields[6] != sid_len(entry) || fields[5] + fields[6] != size || entry[fields[5]] != 1)
+    if (fields[5] != sid_at(entry) || fields[6] != sid_len(entry) || entry[fields[5]] != 1
+        || (is_conditional(entry) ? fields[5] + fields[6] >= size : fields[5] + fields[6] != size))
         fault("the entry at %u has %u bytes, and its SID is given as %u bytes at %u", at, size, fields[6], fields[5]);
     if (fields[7] != at + size)
         fault("the entry at %u has %u bytes, and %u is given as the next place", at, size, fields[7]);

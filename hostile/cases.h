@@ -19,21 +19,30 @@ enum { ALLOWED, DENIED, NOT_SAID, DECISIONS };
 extern uint64_t decisions[DECISIONS];
 /* Steps of pt_step: to an entry, and where none was left. */
 extern uint64_t entry_steps, last_steps;
+/* What expressions came to in pt_evaluate: false, true, unknown. */
+enum { TRUTHS = 3 };
+extern uint64_t truths[TRUTHS];
+/* Conditional entries that decided something: passed over as false, or an allow as unknown; an allow as true; a deny as true or as unknown. */
+enum { PASSED_FALSE, PASSED_UNKNOWN, ALLOW_TRUE, DENY_TRUE, DENY_UNKNOWN, CONDITIONS };
+extern uint64_t conditions[CONDITIONS];
 
 Case case_identity, case_read, case_compute, case_play;
 Case case_room, case_start, case_add, case_set_list, case_set_mark, case_set_owner, case_undo;
 Case case_list, case_own, case_data, case_counts;
-Case case_may_open, case_step;
+Case case_may_open, case_may_open_with, case_step, case_evaluate;
 
 /* In lists.c, for all: */
 void lend_answer(void);
 void lend_identities(uint32_t spoilt, int list);            /* owner and group; list: one that is lent already, or -1 */
-int is_list_refusal(void);                                  /* 1 to 5 */
+int is_list_refusal(void);                                  /* 1 to 5 and 15, of a call that is handed a list */
 void check_places(uint32_t most_control, size_t end);       /* the answer's places; end: place 7 where it is done */
-void check_list_refusal(uint32_t which, int list);          /* a refusal of 1 to 5 is the reader's of the same list; list: -1 where none is given */
+void check_list_refusal(uint32_t which, int list);          /* such a refusal is the reader's of the same list; list: -1 where none is given */
 void check_reads(const uint8_t *list, const uint32_t *told, int may_spare); /* a list that was given out reads as done */
 size_t choose_out(const uint32_t *probed);                  /* a length to lend: none, short, exact or plenty */
 void check_probed(const uint32_t *probed, size_t out_len);  /* the same call with plenty of room told the truth */
+
+/* In evaluate.c: a table, at times a spoilt one. */
+void lend_table(void);
 
 /* Room for anything that any call writes. */
 extern uint8_t plenty[LEND_MOST];

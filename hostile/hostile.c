@@ -13,12 +13,12 @@
 #include "cases.h"
 #include "rooms.h"
 
-enum { NUMBERS = 15 };
+enum { NUMBERS = 24 };
 
 /* Which numbers a call can give: the documents' orders. */
 enum {
     DONE = 1 << 0,
-    LIST = 1 << 1 | 1 << 2 | 1 << 3 | 1 << 4 | 1 << 5,
+    LIST = 1 << 1 | 1 << 2 | 1 << 3 | 1 << 4 | 1 << 5 | 1 << 15,
     IDENTITY = 1 << 6,
     TYPES_7 = 1 << 7,
     NO_ROOM = 1 << 8,
@@ -28,9 +28,11 @@ enum {
     RULE = 1 << 12,
     NO_TREE = 1 << 13,
     GENERIC = 1 << 14,
+    EXPRESSION = 1 << 15,                     /* of pt_evaluate; elsewhere it is a list's */
+    BAD_TABLE = 1 << 23,
     CREATOR_OWNER_OR_GROUP = 1 << 1 | 1 << 2, /* of pt_identity */
     SOME_BYTES = 1 << 1,                      /* of pt_room: any size but 0 */
-    TOO_MANY_HELD = 1 << 7                    /* of pt_may_open */
+    TOO_MANY_HELD = 1 << 7                    /* of pt_may_open and pt_may_open_with */
 };
 
 /* A call's weight is its share of 1,000. Cheap calls come often; calls on a tree cost more, as they look at the whole room.
@@ -44,40 +46,44 @@ static struct {
     uint32_t least_spare; /* done with a list that has spare bytes, handed in or given back; 0 where there is none to be had */
     uint64_t calls, spare, came[NUMBERS];
 } calls[] = {
-    {"pt_identity", 90, case_identity, DONE | CREATOR_OWNER_OR_GROUP | IDENTITY,
-     {[0] = 13500, [1] = 1150, [2] = 830, [6] = 6100}, 0, 0, 0, {0}},
-    {"pt_read", 190, case_read, DONE | LIST | NO_ROOM,
-     {[0] = 23500, [1] = 4900, [2] = 5900, [3] = 1800, [4] = 2250, [5] = 2200, [8] = 6300}, 6800, 0, 0, {0}},
+    {"pt_identity", 60, case_identity, DONE | CREATOR_OWNER_OR_GROUP | IDENTITY,
+     {[0] = 9350, [1] = 780, [2] = 590, [6] = 4100}, 0, 0, 0, {0}},
+    {"pt_read", 160, case_read, DONE | LIST | NO_ROOM,
+     {[0] = 19500, [1] = 4150, [2] = 4550, [3] = 1350, [4] = 1700, [5] = 1700, [8] = 5250, [15] = 1000}, 5700, 0, 0, {0}},
     {"pt_step", 60, case_step, DONE | LIST,
-     {[0] = 11000, [1] = 1000, [2] = 1250, [3] = 390, [4] = 480, [5] = 460}, 3000, 0, 0, {0}},
-    {"pt_may_open", 80, case_may_open, DONE | LIST | IDENTITY | TOO_MANY_HELD | GENERIC,
-     {[0] = 13000, [1] = 410, [2] = 470, [3] = 150, [4] = 190, [5] = 180, [6] = 2000, [7] = 1400, [14] = 1750}, 2900, 0, 0, {0}},
-    {"pt_compute", 140, case_compute, DONE | LIST | IDENTITY | TYPES_7 | NO_ROOM | RULE,
-     {[0] = 16500, [1] = 1400, [2] = 610, [3] = 190, [4] = 230, [5] = 220, [6] = 2600, [7] = 3200, [8] = 7600, [12] = 1400}, 4800, 0, 0, {0}},
-    {"pt_room", 50, case_room, DONE | SOME_BYTES,
-     {[0] = 5300, [1] = 7100}, 0, 0, 0, {0}},
+     {[0] = 11000, [1] = 1050, [2] = 1100, [3] = 330, [4] = 430, [5] = 430, [15] = 250}, 3000, 0, 0, {0}},
+    {"pt_may_open", 60, case_may_open, DONE | LIST | IDENTITY | TOO_MANY_HELD | GENERIC,
+     {[0] = 9950, [1] = 300, [2] = 310, [3] = 100, [4] = 120, [5] = 110, [6] = 1500, [7] = 1000, [14] = 1300, [15] = 55}, 2150, 0, 0, {0}},
+    {"pt_evaluate", 60, case_evaluate, DONE | EXPRESSION | BAD_TABLE,
+     {[0] = 6500, [15] = 6750, [23] = 1700}, 0, 0, 0, {0}},
+    {"pt_may_open_with", 60, case_may_open_with, DONE | LIST | IDENTITY | TOO_MANY_HELD | GENERIC | BAD_TABLE,
+     {[0] = 7850, [1] = 310, [2] = 340, [3] = 75, [4] = 120, [5] = 120, [6] = 1500, [7] = 1050, [14] = 1250, [15] = 55, [23] = 2000}, 1700, 0, 0, {0}},
+    {"pt_compute", 120, case_compute, DONE | LIST | IDENTITY | TYPES_7 | NO_ROOM | RULE,
+     {[0] = 14500, [1] = 1200, [2] = 470, [3] = 150, [4] = 170, [5] = 160, [6] = 2400, [7] = 2750, [8] = 6500, [12] = 1200, [15] = 110}, 4200, 0, 0, {0}},
+    {"pt_room", 30, case_room, DONE | SOME_BYTES,
+     {[0] = 3200, [1] = 4200}, 0, 0, 0, {0}},
     {"pt_start", 35, case_start, DONE | LIST | NO_ROOM | RULE,
-     {[0] = 5300, [1] = 90, [2] = 110, [3] = 35, [4] = 45, [5] = 40, [8] = 80, [12] = 2700}, 610, 0, 0, {0}},
+     {[0] = 5300, [1] = 100, [2] = 100, [3] = 26, [4] = 36, [5] = 30, [8] = 180, [12] = 2700, [15] = 18}, 590, 0, 0, {0}},
     {"pt_add", 60, case_add, DONE | LIST | IDENTITY | NO_ROOM | NO_OBJECT | FULL | NO_TREE,
-     {[0] = 4100, [1] = 120, [2] = 150, [3] = 45, [4] = 55, [5] = 55, [6] = 360, [8] = 65, [9] = 3400, [10] = 4200, [13] = 1600}, 490, 0, 0, {0}},
+     {[0] = 4250, [1] = 140, [2] = 150, [3] = 34, [4] = 48, [5] = 42, [6] = 370, [8] = 100, [9] = 3400, [10] = 4400, [13] = 1650, [15] = 24}, 490, 0, 0, {0}},
     {"pt_set_list", 35, case_set_list, DONE | LIST | NO_ROOM | NO_OBJECT | NO_TREE,
-     {[0] = 5300, [1] = 150, [2] = 180, [3] = 50, [4] = 60, [5] = 60, [8] = 95, [9] = 1600, [13] = 970}, 950, 0, 0, {0}},
+     {[0] = 5250, [1] = 150, [2] = 170, [3] = 46, [4] = 50, [5] = 48, [8] = 140, [9] = 1650, [13] = 980, [15] = 26}, 950, 0, 0, {0}},
     {"pt_set_mark", 35, case_set_mark, DONE | NO_ROOM | NO_OBJECT | NO_TREE,
-     {[0] = 5800, [8] = 50, [9] = 1600, [13] = 980}, 0, 0, 0, {0}},
+     {[0] = 5900, [8] = 50, [9] = 1650, [13] = 990}, 0, 0, 0, {0}},
     {"pt_set_owner", 35, case_set_owner, DONE | IDENTITY | NO_ROOM | NO_OBJECT | NO_TREE,
-     {[0] = 5400, [6] = 520, [8] = 50, [9] = 1600, [13] = 1000}, 0, 0, 0, {0}},
+     {[0] = 5400, [6] = 530, [8] = 48, [9] = 1650, [13] = 980}, 0, 0, 0, {0}},
     {"pt_undo", 40, case_undo, DONE | NO_ROOM | NO_STEP | NO_TREE,
-     {[0] = 6400, [8] = 64, [11] = 2300, [13] = 1100}, 0, 0, 0, {0}},
+     {[0] = 6450, [8] = 65, [11] = 2200, [13] = 1100}, 0, 0, 0, {0}},
     {"pt_list", 30, case_list, DONE | NO_ROOM | NO_OBJECT | NO_TREE,
-     {[0] = 3500, [8] = 1600, [9] = 1400, [13] = 840}, 0, 0, 0, {0}},
+     {[0] = 3550, [8] = 1600, [9] = 1400, [13] = 860}, 0, 0, 0, {0}},
     {"pt_own", 30, case_own, DONE | NO_ROOM | NO_OBJECT | NO_TREE,
-     {[0] = 4000, [8] = 1100, [9] = 1400, [13] = 850}, 490, 0, 0, {0}},
+     {[0] = 4000, [8] = 1150, [9] = 1400, [13] = 860}, 510, 0, 0, {0}},
     {"pt_data", 30, case_data, DONE | NO_ROOM | NO_OBJECT | NO_TREE,
-     {[0] = 3200, [8] = 1800, [9] = 1400, [13] = 850}, 0, 0, 0, {0}},
+     {[0] = 3200, [8] = 1900, [9] = 1400, [13] = 840}, 0, 0, 0, {0}},
     {"pt_counts", 30, case_counts, DONE | NO_TREE,
-     {[0] = 6600, [13] = 820}, 0, 0, 0, {0}},
+     {[0] = 6600, [13] = 830}, 0, 0, 0, {0}},
     {"pt_play", 30, case_play, DONE | NO_ROOM,
-     {[0] = 4700, [8] = 2700}, 1450, 0, 0, {0}},
+     {[0] = 4700, [8] = 2700}, 1400, 0, 0, {0}},
 };
 
 enum { CALLS = sizeof calls / sizeof *calls };
@@ -88,14 +94,22 @@ static const struct {
     const uint64_t *came;
     uint32_t least;
 } totals[] = {
-    {"ranges lent for a second parameter", &lent_twice, 26000},
-    {"lists read of 65,533 to 65,535 bytes", &long_lists, 21},
-    {"lists read whose spare bytes begin like an entry", &entry_lists, 2650},
-    {"answers yes by a list's allows", &decisions[ALLOWED], 1550},
-    {"answers no by a deny", &decisions[DENIED], 2100},
-    {"answers no as no entry has a bit", &decisions[NOT_SAID], 6300},
+    {"ranges lent for a second parameter", &lent_twice, 25000},
+    {"lists read of 65,533 to 65,535 bytes", &long_lists, 16},
+    {"lists read whose spare bytes begin like an entry", &entry_lists, 2200},
+    {"answers yes by a list's allows", &decisions[ALLOWED], 1700},
+    {"answers no by a deny", &decisions[DENIED], 2700},
+    {"answers no as no entry has a bit", &decisions[NOT_SAID], 9200},
     {"steps to an entry", &entry_steps, 5700},
-    {"steps with no entry left", &last_steps, 5400},
+    {"steps with no entry left", &last_steps, 5500},
+    {"expressions that are false", &truths[0], 2250},
+    {"expressions that are true", &truths[1], 1900},
+    {"expressions that are unknown", &truths[2], 2250},
+    {"conditional entries passed over as false", &conditions[PASSED_FALSE], 680},
+    {"conditional allows passed over as unknown", &conditions[PASSED_UNKNOWN], 340},
+    {"conditional allows that are true", &conditions[ALLOW_TRUE], 170},
+    {"conditional denies that are true", &conditions[DENY_TRUE], 160},
+    {"conditional denies that are unknown", &conditions[DENY_UNKNOWN], 360},
 };
 
 enum { TOTALS = sizeof totals / sizeof *totals };
@@ -152,7 +166,7 @@ static void print_tally(void)
 
     printf("how often each number came (pt_room: 0, or 1 for a size), and 0 with spare bytes in a list\n");
     for (i = 0; i < CALLS; i++) {
-        printf("%-12s %7llu calls:", calls[i].name, (unsigned long long)calls[i].calls);
+        printf("%-16s %7llu calls:", calls[i].name, (unsigned long long)calls[i].calls);
         for (number = 0; number < NUMBERS; number++)
             if (can_give(i, number))
                 printf("  %d: %llu", number, (unsigned long long)calls[i].came[number]);

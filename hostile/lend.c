@@ -12,7 +12,7 @@
 enum { SLACK = 0xC3 };
 
 static const char *const lent_names[LENT_KINDS] = {"first list or bytes", "second list", "third list", "types", "owner",
-                                                   "group", "mapping", "room", "out", "answer", "held SIDs", "entry"};
+                                                   "group", "mapping", "room", "out", "answer", "held SIDs", "table", "entry"};
 static uint8_t slack[LEND_MOST];
 
 Lent lent[LENT_KINDS];

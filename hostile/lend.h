@@ -8,9 +8,9 @@
 
 enum { PAGE = 4096, GUARD = 32 * PAGE, LEND_MOST = 64 * PAGE };
 
-/* What a call can be lent. FIRST, SECOND and THIRD are lists (parent, creator, default), scripts or an identity's bytes; HELD are the SIDs
- * that someone holds, ENTRY is what a step writes. */
-enum { FIRST, SECOND, THIRD, TYPES, OWNER, GROUP, MAPPING, ROOM, OUT, ANSWER, HELD, ENTRY, LENT_KINDS };
+/* What a call can be lent. FIRST, SECOND and THIRD are lists (parent, creator, default), scripts, an expression or an identity's bytes; HELD are the SIDs
+ * that someone holds, TABLE the names that are known of them, ENTRY is what a step writes. */
+enum { FIRST, SECOND, THIRD, TYPES, OWNER, GROUP, MAPPING, ROOM, OUT, ANSWER, HELD, TABLE, ENTRY, LENT_KINDS };
 
 typedef struct {
     uint8_t *before;   /* filled by the case before lend, and compared afterwards */

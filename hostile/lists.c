@@ -52,7 +52,7 @@ void check_places(uint32_t most_control, size_t end)
         fault("number %u, place 7 is %u, not %zu", a[0], a[7], a[0] ? 0 : end);
     if (a[0] && (a[3] || a[4] || a[5] || a[6]))
         fault("refusal %u tells more: %u %u %u %u", a[0], a[3], a[4], a[5], a[6]);
-    if ((!a[0] || a[0] >= PT_IDENTITY) && (a[1] || a[2]))
+    if (!is_list_refusal() && (a[1] || a[2]))
         fault("number %u with list %u and offset %u", a[0], a[1], a[2]);
     if (a[4] > 1)
         fault("present is %u", a[4]);
@@ -74,7 +74,9 @@ void check_list_refusal(uint32_t which, int list)
 
 int is_list_refusal(void)
 {
-    return answer()[0] >= PT_HEADER && answer()[0] <= PT_SID;
+    uint32_t number = answer()[0];
+
+    return (number >= PT_HEADER && number <= PT_SID) || number == PT_EXPRESSION;
 }
 
 void check_reads(const uint8_t *list, const uint32_t *told, int may_spare)

@@ -1,6 +1,7 @@
 #include <string.h>
 
 #include "make.h"
+#include "conditions.h"
 
 static uint64_t state;
 
@@ -141,7 +142,27 @@ size_t make_identity(uint8_t *to, uint32_t spoilt)
     return len;
 }
 
-enum { ENTRY_MOST = 112 };
+enum { ENTRY_MOST = 112 + EXPRESSION_MOST };
+
+int is_object(const uint8_t *entry)
+{
+    return entry[0] == 5 || entry[0] == 6;
+}
+
+int is_conditional(const uint8_t *entry)
+{
+    return entry[0] == 9 || entry[0] == 10;
+}
+
+size_t sid_at(const uint8_t *entry)
+{
+    return is_object(entry) ? 12u + 16u * (entry[8] & 1) + 16u * (entry[8] >> 1) : 8;
+}
+
+size_t sid_len(const uint8_t *entry)
+{
+    return 8 + 4u * entry[sid_at(entry) + 1];
+}
 
 static uint32_t make_mask(void)
 {
@@ -153,13 +174,13 @@ static uint32_t make_mask(void)
 
 static size_t make_entry(uint8_t *to, unsigned revision)
 {
-    static const uint8_t types[4] = {0, 1, 5, 6};
-    size_t at = 8;
+    static const uint8_t types[] = {0, 1, 0, 1, 9, 10, 5, 6, 5, 6};
+    size_t at = 8, end;
 
-    to[0] = types[pick(revision == 4 ? 4 : 2)];
+    to[0] = types[pick(revision == 4 ? 10 : 6)];
     to[1] = (uint8_t)(chance(2) ? 3 : pick(32));
     put32(to + 4, make_mask());
-    if (to[0] > 1) {
+    if (is_object(to)) {
         uint32_t word = pick(4);
         put32(to + 8, word);
         at = 12;
@@ -170,6 +191,11 @@ static size_t make_entry(uint8_t *to, unsigned revision)
             }
     }
     at += make_sid(to + at);
+    if (is_conditional(to)) {
+        end = at + make_expression(to + at, chance(12) ? TOKENS_MOST : 2 + pick(6));
+        at = padded(end);
+        memset(to + end, 0, at - end);
+    }
     put16(to + 2, at);
     return at;
 }
@@ -195,19 +221,26 @@ size_t make_good_list(uint8_t *to, size_t most, unsigned entries)
     return at;
 }
 
-/* What a good entry's tests are to find: its type (3), a bit of its flags or of its object word (4), its SID's first two bytes (5). */
+/* What a good entry's tests are to find: its type (3), a bit of its flags or of its object word (4), its SID's first two bytes (5), the
+ * expression behind it (15). */
 static void spoil_on_purpose(uint8_t *entry)
 {
-    int is_object = entry[0] > 1;
-    uint8_t *sid = entry + (is_object ? 12 + 16 * (entry[8] & 1) + 16 * (entry[8] >> 1) : 8);
+    int has_word = is_object(entry);
+    uint8_t *sid = entry + sid_at(entry);
+    size_t behind = sid_at(entry) + sid_len(entry), size = get16(entry + 2);
 
+    /* spare bytes may be anything */
+    if (is_conditional(entry) && behind < size && chance(2)) {
+        change_a_byte(entry + behind, size - behind);
+        return;
+    }
     switch (pick(6)) {
     case 0: entry[0] = (uint8_t)(2 + pick(3)); break;
     case 1: entry[1] |= (uint8_t)(32 << pick(3)); break;
-    case 2: entry[is_object ? 8 + pick(4) : 1] |= (uint8_t)(32 << pick(3)); break;
+    case 2: entry[has_word ? 8 + pick(4) : 1] |= (uint8_t)(32 << pick(3)); break;
     case 3: sid[0] = (uint8_t)(2 * pick(128)); break;
     case 4: sid[1] = (uint8_t)(16 + pick(240)); break;
-    default: entry[0] = (uint8_t)(is_object ? 7 + pick(249) : 5 + pick(2)); /* 5 and 6 are none under revision 2 */
+    default: entry[0] = (uint8_t)(has_word ? 7 + pick(249) : 5 + pick(2)); /* 5 and 6 are none under revision 2 */
     }
 }
 

@@ -23,6 +23,12 @@ void make_mapping(uint8_t to[16]);
 size_t make_types(uint8_t *to);
 size_t make_sid(uint8_t *to);                                      /* exactly one, at times a placeholder */
 size_t make_identity(uint8_t *to, uint32_t spoilt);                /* once in `spoilt` anything but a good owner */
+/* Of an entry that reads as done: its kind, where its SID begins, and how long it is. */
+int is_object(const uint8_t *entry);
+int is_conditional(const uint8_t *entry);
+size_t sid_at(const uint8_t *entry);
+size_t sid_len(const uint8_t *entry);
+
 size_t make_good_list(uint8_t *to, size_t most, unsigned entries);
 size_t pad_list(uint8_t *list, size_t len, size_t padded);         /* a list with spare bytes up to the length `padded` */
 size_t make_list(uint8_t *to, size_t most, uint32_t spoilt);       /* once in `spoilt` a spoilt one; often spare bytes; seldom a very long one */

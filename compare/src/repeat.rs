@@ -3,6 +3,7 @@
 
 mod access;
 mod computing;
+mod conditions;
 mod lists;
 mod playing;
 mod reading;
@@ -17,6 +18,9 @@ use lists::{Inheritable, plain};
 /// Spare bytes of a list that is read, and of a parent's.
 const SPARE_READ: usize = 60_000;
 const SPARE_COMPUTED: usize = 2_000;
+
+/// Of a condition.
+const TOKENS: usize = 64;
 
 /// Who is called.
 #[derive(Clone, Copy)]
@@ -39,7 +43,7 @@ pub trait Repeated {
 fn at_a_time(what: &str) -> usize {
     match what.split_once('_') {
         Some(("read" | "compute" | "search", of)) if of.ends_with("3000") => 10,
-        Some(("read" | "compute" | "search" | "may" | "step", _)) => 1_000,
+        Some(("read" | "compute" | "search" | "may" | "step" | "evaluate", _)) => 1_000,
         _ => 1,
     }
 }
@@ -100,8 +104,9 @@ fn measured_calls(repeated: &mut dyn Repeated, calls: usize) {
     }
 }
 
-/// On `read_N`, `read_spare_N`, `compute_N`, `compute_spare_N`, `set_list_N`,
-/// `undo_N`, `full_tree`, `play_N`, `may_open_16`, `may_open_100`, `step_N`,
+/// On `read_N`, `read_spare_N`, `read_condition_64`, `compute_N`,
+/// `compute_spare_N`, `set_list_N`, `undo_N`, `full_tree`, `play_N`,
+/// `may_open_16`, `may_open_100`, `may_open_with_16`, `step_N`, `evaluate_64`,
 /// and `compute_WHICH_N` and `search_WHICH_N`, where WHICH is `first`, `last`
 /// or `none`, and says which of the parent's entries is inheritable.
 fn repeated(side: Side, what: &str) -> Option<Box<dyn Repeated>> {
@@ -127,6 +132,17 @@ fn repeated(side: Side, what: &str) -> Option<Box<dyn Repeated>> {
             held_with(number)?,
         )),
         "step" => Box::new(access::Stepping::of_entries(side, number)),
+        "read_condition" if number == TOKENS => Box::new(reading::Reading::of_list(
+            side,
+            conditions::list_of_64_tokens(),
+            1,
+        )),
+        "evaluate" if number == TOKENS => Box::new(conditions::Evaluating::of_64_tokens(side)),
+        "may_open_with" => Box::new(conditions::Opening::of_entries(
+            side,
+            number,
+            held_with(number)?,
+        )),
         _ => {
             let (call, which) = name.split_once('_')?;
             let parent = plain(number, Inheritable::by_name(which)?, 0);

@@ -150,7 +150,12 @@ impl Maker {
             plans.push(plan);
         }
         plans.extend(entries_of(*random.pick(flags), bytes));
-        good_list(&plans)
+        let list = good_list(&plans);
+        let conditional = self.palette.under_conditions(random, list.clone());
+        if conditional.len() <= most {
+            return conditional;
+        }
+        list
     }
 
     fn plan(&self, random: &mut Random, flags: &[u8]) -> EntryPlan {

@@ -13,7 +13,7 @@ const READ: u32 = 0x0002_0000;
 const FIRST_HELD: u32 = 1_000;
 
 /// One of a domain's, in 28 bytes.
-fn account(number: u32) -> Vec<u8> {
+pub fn account(number: u32) -> Vec<u8> {
     nt_sid(&[21, 1_004_336_348, 1_177_238_915, 682_003_330, number])
 }
 

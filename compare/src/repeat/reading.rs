@@ -16,9 +16,14 @@ pub struct Reading {
 impl Reading {
     /// With so many spare bytes behind them.
     pub fn of_entries(side: Side, entries: usize, spare: usize) -> Reading {
+        let list = lists::plain(entries, lists::Inheritable::All, spare);
+        Reading::of_list(side, list, entries)
+    }
+
+    pub fn of_list(side: Side, list: Vec<u8>, entries: usize) -> Reading {
         Reading {
             side,
-            list: lists::plain(entries, lists::Inheritable::All, spare),
+            list,
             row: vec![0; entries],
             answer: [0; 8],
         }

@@ -1,6 +1,7 @@
 pub mod Sids
 pub mod Padding
 pub mod Cases
+pub mod Quick
 pub mod Walks
 pub mod Told
 pub mod Pieces

@@ -9,6 +9,7 @@ ghost use Rattle.list.specs.Answer.{readingValues, checkValues, readValu
 ghost use Rattle.list.specs.Good.{Listed};
 use crate::entries::Checked;
 use crate::entries::entry_of;
+use crate::entries::quick_size;
 use octets::half_in;
 
 // What reading a list finds: its length, its count and where its entries end, or a refusal's number and offset.
@@ -61,16 +62,22 @@ fn walk(list: &[u8], rev: u8, count: u16) -> Reading
     let mut at: usize = 8;
     let mut left = count;
     while 0 < left {
-        match entry_at(list, at, rev) {
-            Checked::Bad(number) => {
-                return Reading::Refused {
-                    number,
-                    at: at as u16,
-                };
-            }
-            Checked::Good(e) => {
-                at = at + e.size;
-                left = left - 1;
+        let size = quick_size(&list[at..], rev);
+        if size != 0 {
+            at = at + size;
+            left = left - 1;
+        } else {
+            match entry_at(list, at, rev) {
+                Checked::Bad(number) => {
+                    return Reading::Refused {
+                        number,
+                        at: at as u16,
+                    };
+                }
+                Checked::Good(e) => {
+                    at = at + e.size;
+                    left = left - 1;
+                }
             }
         }
     }

@@ -2,7 +2,7 @@
 //! signed number of 64 bits.
 
 use super::token::is_name_length;
-use std::collections::HashMap;
+use std::collections::BTreeMap;
 
 pub const MOST_NAMES: usize = 32;
 
@@ -36,7 +36,7 @@ impl BadTable {
 #[derive(Clone, Debug, Default, PartialEq, Eq)]
 pub struct Table<'a> {
     /// Names are compared as bytes.
-    values: HashMap<&'a [u8], i64>,
+    values: BTreeMap<&'a [u8], i64>,
 }
 
 impl<'a> Table<'a> {

@@ -116,14 +116,21 @@ impl Palette {
 
     /// A good list, with spare bytes or without.
     pub fn list(&self, random: &mut Random) -> Vec<u8> {
-        let mut list = self.filled_list(random);
-        if let Some(attributes) = &self.conditions {
-            list = attributes.under_conditions(random, &list, MOST_TOKENS);
-        }
+        let list = self.filled_list(random);
+        let list = self.under_conditions(random, list);
         if self.roomy && random.chance(1, 2) {
             return roomy(random, &list);
         }
         list
+    }
+
+    /// With some of its entries under short conditions, where the palette has
+    /// them.
+    pub fn under_conditions(&self, random: &mut Random, list: Vec<u8>) -> Vec<u8> {
+        match &self.conditions {
+            Some(attributes) => attributes.under_conditions(random, &list, MOST_TOKENS),
+            None => list,
+        }
     }
 
     /// Now and then a long one.
