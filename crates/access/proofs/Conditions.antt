@@ -36,6 +36,11 @@ no-object k c = by (eqb k 9) refl
     by true e = ap (λ (x : ℕ). eqb x 5 || eqb x 6) (eqb-true k 9 e)
     by false e = ap (λ (x : ℕ). eqb x 5 || eqb x 6) (eqb-true k 10 (rw e at c))
 
+-- type and expression decide whether a condition counts
+pub alike-counts : (table x e : List ℕ) → kindOf x ≡ kindOf e → tailOf x ≡ tailOf e → conditionCounts table x ≡ conditionCounts table e
+unfolding conditionCounts
+alike-counts table x e k t = ap₂ (λ (kind : ℕ) (tail : List ℕ). cond (conditionalKind kind) (saidCounts (saidBy tail table) (isAllow kind)) true) k t
+
 module _ (type table : List ℕ) (sids : List (List ℕ)) (e : List ℕ) where
   -- where its condition counts, an entry counts as one without a condition
   counts-as-plain : conditionCounts table e ≡ true → entryCounts type table sids e ≡ (not (inheritOnly e) && (among (sidOf e) sids && typeCounts type e))

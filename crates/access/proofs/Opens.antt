@@ -3,23 +3,20 @@ use mathlib.Core.Path.{_≡_, refl, ap, _∙_}
 use mathlib.Core.Bool.{Bool, true, false, cond}
 use mathlib.Core.List.{List}
 use mathlib.Core.Option.{none, some}
-use Prim.Native.Nat.{ℕ, suc, _+_, _^_, _≤_, _<_}
+use Prim.Native.Nat.{ℕ, _^_, _≤_, _<_}
 use native.Mathlib.Omega.{arith}
 use lib.ListN.{length, take, drop}
-use lib.Seq.{length-take-le}
 use lib.Dec.{leb}
 use borrow.Author.Tests.{ne-eqb, le-leb}
 use Rattle.octets.specs.Order.{need}
 use Rattle.octets.specs.Bytes.{has}
 use Rattle.condition.specs.Table.{tableOk}
 use Rattle.list.specs.Entry.{access}
-use Rattle.list.specs.List.{revOf, cut, entriesOf, checkOf}
+use Rattle.list.specs.List.{cut, entriesOf, checkOf}
 use Rattle.list.specs.Good.{Listed}
 use Rattle.list.specs.declared.lists.Reading.{Reading}
 use Rattle.list.specs.declared.lists.Reading.the-variants.{Done as Read, Refused as Unread}
 use Rattle.list.proofs.Told.{told}
-use Rattle.list.proofs.Parts.{laid, fewer}
-use Rattle.list.proofs.Spare.{end-within}
 use Rattle.access.specs.declared.Access.the-variants.{Refused}
 use Rattle.access.specs.declared.Pointed.the-variants.{Done, Refused as Stopped}
 use Rattle.access.specs.Held.{heldOf, toEnd}
@@ -105,14 +102,6 @@ module _ (q : Question) where
 -- ---- over the bytes
 
 module _ (s : List ℕ) (l n x : ℕ) (e : checkOf access s ≡ Read l n x) where
-  -- as many steps as there are bytes are enough
-  steps-enough : (m : ℕ) → length (take x s) ≤ m + 8 → n < suc m
-  steps-enough m h =
-      let t = told access s l n x e in
-      let d = laid access s n (t .listed) in
-      let b = end-within access s l n x e in
-      omega (arith, length-take-le x s (omega (arith, b, t .whole)), t .end, d .ends, d .count, fewer access (revOf s) (entriesOf s) (d .wholes))
-
   -- how its entries are read
   pub reads-so : Listed access s n
   reads-so = told access s l n x e .listed
@@ -121,9 +110,9 @@ module _ (s : List ℕ) (l n x : ℕ) (e : checkOf access s ≡ Read l n x) wher
   unfolding entriesOf
   decided-all type table sids w f = decided-is type table sids w _ f ∙ ap (λ (k : ℕ). opensBy type table sids w (cut k (drop 8 s))) (reads-so .count)
 
-  pub sought : (place m : ℕ) → length (take x s) ≤ m + 8 → stepAt (take x s) (seekFrom (suc m) (take x s) 8 place) ≡ firstFrom place (walkThrough s)
-  sought place m h =
-      found-first (take x s) place n (suc m) 8 (walking-first s l n x e) (steps-enough m h)
+  pub sought : (place : ℕ) → stepAt (take x s) (seekFrom n (take x s) 8 place) ≡ firstFrom place (walkThrough s)
+  sought place =
+      found-first (take x s) place n 8 (walking-first s l n x e)
       ∙ ap (λ (es : List (List ℕ)). firstFrom place (walkOver 8 es)) (entries-kept s l n x e)
 
   pub pointed : (place : ℕ) → pointedOf s place ≡ Done (firstFrom place (walkThrough s))

@@ -7,7 +7,7 @@ use lib.ListN.{length, take, drop, length-append, length-drop}
 use lib.Seq.{drop-drop, drop-at, take-at, length-take-le, getD-take}
 use Rattle.list.specs.Entry.{access, sizeOf, fieldsOf, entryOf}
 use Rattle.list.specs.List.{revOf, cut, entriesOf, entriesEnd, checkOf}
-use Rattle.list.specs.Good.{Sound, Passes}
+use Rattle.list.specs.Good.{Sound}
 use Rattle.list.specs.declared.entries.Entry.{Entry}
 use Rattle.list.specs.declared.entries.Checked.{Checked}
 use Rattle.list.specs.declared.entries.Checked.the-variants.{Good, Bad}
@@ -22,6 +22,7 @@ use Rattle.list.proofs.Remade.{bounds, cut-same}
 use Rattle.access.specs.declared.steps.Found.{Found}
 use Rattle.access.specs.declared.steps.Found.the-variants.{At, End}
 use Rattle.access.specs.Walk.{walkOver, walkThrough, walkedBy, walkedOf, foundBy, stepAt, pastBy, nextAt, walkOn, walkFrom}
+use Rattle.access.specs.Inner.Seek.{Walking}
 
 -- ---- one step
 
@@ -68,12 +69,6 @@ module _ (s : List ℕ) (at : ℕ) where
       by (Bad j) q k = let z : _≡_ {A = ℕ} 0 1 = cc in absurd (omega arith)
 
 -- ---- all the steps
-
--- k entries are left from `at` on, and they end where s does
-pub record Walking (s : List ℕ) (k at : ℕ) : Type 0 where
-  pub within : at ≤ length s
-  pub rest : Passes access (revOf s) k (drop at s)
-  pub ends : entriesEnd k at (drop at s) ≡ length s
 
 pub walking-end : (s : List ℕ) (at : ℕ) → Walking s 0 at → stepAt s at ≡ End
 unfolding entriesEnd

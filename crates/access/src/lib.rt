@@ -1,12 +1,10 @@
 // Who may open an object, and a list's entries stepped through where they lie.
 ghost use mathlib.Core.Path.{_≡_};
 ghost use mathlib.Core.List.{[]};
-ghost use Prim.Native.Nat.{ℕ, suc, _+_, _≤_};
-ghost use lib.ListN.{length};
 ghost use Rattle.access.specs.Open.{mayOpenOf, questionBy};
 ghost use Rattle.access.specs.Walk.{pointedOf};
 ghost use Rattle.access.specs.Inner.Decide.{lentFault, toldBy};
-ghost use Rattle.access.specs.Inner.Seek.{seekFrom};
+ghost use Rattle.access.specs.Inner.Seek.{Walking, seekFrom};
 
 mod decide;
 mod held;
@@ -16,6 +14,7 @@ mod walkers;
 use decide::decide;
 use held::held_fault;
 use list::Reading;
+use octets::half_in;
 pub use steps::Found;
 pub use steps::next_at;
 pub use steps::step_at;
@@ -107,17 +106,20 @@ pub fn may_open(given: bool, list: &[u8], guid: [u8; 16], held: &[u8], wanted: u
     may_open_with(given, list, guid, held, wanted, octets::part_of(held, 0, 0))
 }
 
-// Where the first entry at or after a place begins, in a list that is cut where its entries end; the end where there is none.
-fn seek(entries: &[u8], place: usize) -> usize
-    ensures { λ r. ⌜ ((n : ℕ) → length (now (entries .entry)) ≤ n + 8 → r ≡ seekFrom (suc n) (now (entries .entry)) 8 place) ⌝ }
+// Where the first entry at or after a place begins, of `count` good entries that end where the bytes do; their end where there is none. They were tested,
+// and are gone past by their sizes.
+fn seek(entries: &[u8], count: u16, place: usize) -> usize
+    requires { ⌜ Walking (now entries) count 8 ⌝ }
+    ensures { λ r. ⌜ r ≡ seekFrom count (now (entries .entry)) 8 place ⌝ }
 {
     let mut at: usize = 8;
-    while at < place {
-        let next = next_at(entries, at);
-        if next == at {
+    let mut left = count;
+    while 0 < left {
+        if place <= at {
             return at;
         }
-        at = next;
+        at = at + half_in(entries, at + 2) as usize;
+        left = left - 1;
     }
     at
 }
@@ -130,11 +132,11 @@ pub fn step_from(list: &[u8], place: usize) -> Pointed
         Reading::Refused { number, at } => Pointed::Refused { number, at },
         Reading::Done {
             length: _,
-            count: _,
+            count,
             end,
         } => {
             let entries = octets::part_of(list, 0, end as usize);
-            Pointed::Done(step_at(entries, seek(entries, place)))
+            Pointed::Done(step_at(entries, seek(entries, count, place)))
         }
     }
 }

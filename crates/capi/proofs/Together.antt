@@ -9,20 +9,22 @@ use lib.ListN.{length, set, drop, replicate}
 use Rattle.octets.specs.Bytes.{has, among, sameBytes, guidAt}
 use Rattle.list.specs.Identity.{placeholderOf, wholeSid}
 use Rattle.condition.specs.Table.{tableOk, wellMade}
-use Rattle.list.specs.Entry.{access, objectKind, kindOf, maskOf, wordOf, sidOf, conditionalKind}
+use Rattle.list.specs.Entry.{access, objectKind, kindOf, maskOf, wordOf, sidOf}
 use Rattle.list.specs.List.{MaybeList, entriesOf}
 use Rattle.list.specs.Good.{Every}
+use Rattle.list.proofs.Revisions.{every-to}
 use Rattle.octets.proofs.Bits.{has-common}
 use Rattle.octets.proofs.Tests.{off}
 use Rattle.inherit.specs.Asked.{Asked, givenIn}
 use Rattle.inherit.specs.Last.{inPlace, resolved}
 use Rattle.inherit.specs.Branch.{resultOf}
 use Rattle.inherit.specs.Compute.{computeOf, bytesFor}
-use Rattle.inherit.specs.Said.{Stands, Copied}
+use Rattle.inherit.specs.Said.{Stands, Copied, Kept, givenEntries}
 use Rattle.inherit.proofs.Masks.{mended-has}
 use Rattle.inherit.proofs.Theorems.{computes}
 use Rattle.inherit.proofs.Results.{Copy}
 use Rattle.inherit.proofs.Mended.{copied-is}
+use Rattle.inherit.proofs.Kept.{conditions-kept}
 use Rattle.inherit.proofs.Worked.{mapping, system}
 use Rattle.tree.proofs.Worked.{bytes-open, entries-open, lists-open, copies-open, last-open, compute-open}
 use Rattle.access.specs.Held.{sidsIn, heldOf, toEnd}
@@ -30,7 +32,7 @@ use Rattle.access.specs.Open.{Question, typeCounts, conditionCounts, applies, e
 use Rattle.access.specs.declared.Access.{Access}
 use Rattle.access.specs.declared.Access.the-variants.{Yes, No}
 use Rattle.access.proofs.Bitwise.{each-at, both-hold}
-use Rattle.access.proofs.Weighs.{unconditional}
+use Rattle.access.proofs.Conditions.{alike-counts}
 use Rattle.access.proofs.Theorems.{yes-exactly, allowed-opens}
 use Rattle.access.proofs.Answers.{EveryEntry, without-them, ordinary-answer}
 
@@ -82,7 +84,7 @@ module _ (a : Asked) (room : ℕ) (r : a .rule ≡ 2) (h : computeOf a room .pre
     (names : among (inPlace (placeholderOf (sidOf e)) (sidOf e) (a .owner) (a .group)) (heldOf (q .held)) ≡ true)
     (s : Stands (resolved (givenIn a) (set e 1 flags)) (entriesOf (bytesFor (resultOf access a))))
     (denies : Every (λ x. among (sidOf x) (heldOf (q .held)) ≡ true → isAllow (kindOf x) ≡ true) (s .before))
-    (made : tableOk (q .table) ≡ true) (said : conditionCounts (q .table) (resolved (givenIn a) (set e 1 flags)) ≡ true) where
+    (made : tableOk (q .table) ≡ true) (said : conditionCounts (q .table) e ≡ true) where
   abbrev sids : List (List ℕ)
   sids = heldOf (q .held)
 
@@ -96,7 +98,7 @@ module _ (a : Asked) (room : ℕ) (r : a .rule ≡ 2) (h : computeOf a room .pre
   unfolding entryCounts applies
   counts =
       both-hold (ap not (ap (has 0x08) (is .flags-are) ∙ grants .here))
-      (both-hold (ap (λ (x : List ℕ). among x sids) (is .sid) ∙ names) (both-hold (untyped-counts (q .type) copy (ap (has 1) (is .word) ∙ grants .untyped)) said))
+      (both-hold (ap (λ (x : List ℕ). among x sids) (is .sid) ∙ names) (both-hold (untyped-counts (q .type) copy (ap (has 1) (is .word) ∙ grants .untyped)) (alike-counts (q .table) copy e (is .kind) (is .tail) ∙ said)))
 
   pub full-control : has 0xF0000000 (q .wanted) ≡ false → ((k : ℕ) → k < 32 → has (2 ^ k) (q .wanted) ≡ true → has (2 ^ k) (a .mapping .all) ≡ true)
       → mayOpenOf q ≡ Yes
@@ -116,11 +118,21 @@ module _ (a : Asked) (room : ℕ) (r : a .rule ≡ 2) (h : computeOf a room .pre
         opened = rw asked o;
       })
 
--- an entry that has no condition is copied without one
-pub unconditional-said : (a : Asked) (room : ℕ) (r : a .rule ≡ 2) (h : computeOf a room .present ≡ 1) (e : List ℕ) (flags : ℕ) (c : Copied a e flags) (table : List ℕ)
-    → conditionalKind (kindOf e) ≡ false → conditionCounts table (resolved (givenIn a) (set e 1 flags)) ≡ true
-unconditional-said a room r h e flags c table k =
-    unconditional table (resolved (givenIn a) (set e 1 flags)) (ap conditionalKind (copied-is a room r h e flags c .kind) ∙ k)
+-- ---- inheriting a condition changes nothing of what it says
+
+-- x counts by its condition just as one of these entries of its type does, under any table
+pub record SaysAs (es : List (List ℕ)) (x : List ℕ) : Type 0 where
+  pub entry : List ℕ
+  pub stands : Stands entry es
+  pub kind : kindOf x ≡ kindOf entry
+  pub says : (table : List ℕ) → conditionCounts table x ≡ conditionCounts table entry
+
+-- so does each entry of a computed list, as one that was given
+pub conditions-same : (a : Asked) (room : ℕ) → computeOf a room .present ≡ 1 → Every (SaysAs (givenEntries a)) (entriesOf (bytesFor (resultOf access a)))
+conditions-same a room h =
+    every-to (Kept (givenEntries a)) (SaysAs (givenEntries a))
+    (λ x k. record { entry = k .entry; stands = k .stands; kind = k .kind; says = λ table. alike-counts table x (k .entry) (k .kind) (k .tail) })
+    (entriesOf (bytesFor (resultOf access a))) (conditions-kept a room h)
 
 -- ---- the ticket's folder, computed: it grants S-1-5-18 10000000, for everything below too
 

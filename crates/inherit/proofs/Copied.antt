@@ -29,14 +29,14 @@ use Rattle.inherit.proofs.Planned.{planFor}
 
 -- an entry that stands among some stands among more: with others after them, or before them
 module _ (e : List ℕ) (xs ys : List (List ℕ)) where
-  stands-before : Stands e xs → Stands e (xs ++ ys)
+  pub stands-before : Stands e xs → Stands e (xs ++ ys)
   stands-before s = record { before = s .before; after = s .after ++ ys; is = rw (s .is) (append-assoc (s .before) (e ∷ s .after) ys) }
 
-  stands-after : Stands e ys → Stands e (xs ++ ys)
+  pub stands-after : Stands e ys → Stands e (xs ++ ys)
   stands-after s = record { before = xs ++ s .before; after = s .after; is = rw (s .is) (sym (append-assoc xs (s .before) (e ∷ s .after))) }
 
 -- what each of several entries has, one that stands among them has
-stands-every : (P : List ℕ → Type 0) (e : List ℕ) (es : List (List ℕ)) → Every P es → Stands e es → P e
+pub stands-every : (P : List ℕ → Type 0) (e : List ℕ) (es : List (List ℕ)) → Every P es → Stands e es → P e
 stands-every P e es a s = by (s .before) (rw (s .is) at a)
   where
     by : (xs : List (List ℕ)) → Every P (xs ++ (e ∷ s .after)) → P e

@@ -18,6 +18,7 @@ pub mod Refusals
 pub mod Runs
 pub mod Theorems
 pub mod Mended
+pub mod Kept
 pub mod Remapped
 pub mod Spare
 pub mod Determined

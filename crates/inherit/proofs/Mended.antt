@@ -1,5 +1,5 @@
 -- Rule 2's masks: no mask of a computed list has a generic bit, and computing again from such a list changes no mask, whatever the rule and the mapping.
-use mathlib.Core.Path.{_≡_, refl, sym, ap, ap₂, _∙_}
+use mathlib.Core.Path.{_≡_, refl, sym, ap, ap₂, subst, _∙_}
 use mathlib.Core.Bool.{true, false}
 use mathlib.Core.List.{List, [], _∷_}
 use mathlib.Core.Logic.{inl, inr}
@@ -22,8 +22,8 @@ use Rattle.inherit.specs.Compute.{computeOf, bytesFor}
 use Rattle.inherit.specs.Said.{Low, NoGeneric, Stands, Copied}
 use Rattle.inherit.proofs.Masks.{last-same}
 use Rattle.inherit.proofs.Emits.{resolved-set}
-use Rattle.inherit.proofs.Results.{Copy, copy-is, planned-low, planned-again, every-is}
-use Rattle.inherit.proofs.Copied.{planned-stands, copied-whole}
+use Rattle.inherit.proofs.Results.{Small, Copy, copy-is, planned-low, planned-again, every-is}
+use Rattle.inherit.proofs.Copied.{stands-every, planned-stands, copied-whole}
 use Rattle.inherit.proofs.Sources.{wholes-of}
 use Rattle.inherit.proofs.Theorems.{made, made-entries, computed-every, computed-small, not-heritable}
 
@@ -89,5 +89,6 @@ module _ (a : Asked) (room : ℕ) (r : a .rule ≡ 2) (h : computeOf a room .pre
       let m = made a room h in
       let v = m .passed in
       let w = copied-whole a _ _ _ (wholes-of (a .parent) (v .parent)) (wholes-of (a .creator) (v .creator)) (wholes-of (a .default) (v .default)) e flags c in
-      rw (resolved-set (givenIn a) e flags (omega (arith, w .sound .four)))
-      (copy-is (givenIn a) (m .owner .0) (m .group .0) 4 e w flags (copied-flags a e flags w c) (two-mends r))
+      let x = resolved-set (givenIn a) e flags (omega (arith, w .sound .four)) in
+      let small = subst Small x (stands-every Small _ _ (computed-small a room h) copied-stands) in
+      rw x (copy-is (givenIn a) (m .owner .0) (m .group .0) 4 e w flags (copied-flags a e flags w c) (two-mends r) small)

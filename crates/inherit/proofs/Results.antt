@@ -8,10 +8,10 @@ use lib.ListN.{length, length-append}
 use lib.Dec.{eqb}
 use borrow.Author.Tests.{eqb-false}
 use Rattle.list.specs.Identity.{isSid, placeholderOf}
-use Rattle.list.specs.Entry.{access, flagsOk, objectKind, kindOf, flagsOf, maskOf, wordOf, sidOf}
+use Rattle.list.specs.Entry.{access, flagsOk, objectKind, kindOf, flagsOf, maskOf, wordOf, sidOf, tailOf}
 use Rattle.list.specs.Good.{Whole, Every}
 use Rattle.list.proofs.Sids.{OneSid, one-sid}
-use Rattle.list.proofs.Remade.{remade-kind, remade-flags, remade-mask, remade-word, remade-sid, remade-again, remade-whole}
+use Rattle.list.proofs.Remade.{remade-kind, remade-flags, remade-mask, remade-word, remade-sid, remade-tail, remade-again, remade-whole}
 use Rattle.list.proofs.Revisions.{flags-le, flags-ok, whole-four, whole-plain, one-own, no-placeholder, every-append, every-cond, every-to}
 use Rattle.inherit.specs.declared.branch.Plan.{Plan}
 use Rattle.inherit.specs.declared.copies.Pass.{Pass}
@@ -69,6 +69,7 @@ pub record Copy (g : Given) (e : List ℕ) (flags : ℕ) (x : List ℕ) : Type 0
   pub kind : kindOf x ≡ kindOf e
   pub flags-are : flagsOf x ≡ flags
   pub word : wordOf x ≡ wordOf e
+  pub tail : tailOf x ≡ tailOf e
   pub sid : sidOf x ≡ inPlace (placeholderOf (sidOf e)) (sidOf e) (g .owner) (g .group)
   pub mask : maskOf x ≡ mended (g .mapping) (maskOf e)
 
@@ -88,6 +89,15 @@ module _ (g : Given) (o : isSid (g .owner) ≡ true) (r : isSid (g .group) ≡ t
   unfolding copyOf
   copy-whole small = remade-whole access rev e w flags mask ok put one small
 
+  copy-kind : kindOf (copyOf g flags e) ≡ kindOf e
+  unfolding copyOf
+  copy-kind = remade-kind access rev e w flags mask ok put one
+
+  -- what follows the SID is copied as it is
+  copy-tail : Small (copyOf g flags e) → tailOf (copyOf g flags e) ≡ tailOf e
+  unfolding copyOf
+  copy-tail small = remade-tail access rev e w flags mask ok put one small
+
   copy-flags : flagsOf (copyOf g flags e) ≡ flags
   unfolding copyOf
   copy-flags = remade-flags access rev e w flags mask ok put one
@@ -105,13 +115,14 @@ module _ (g : Given) (o : isSid (g .owner) ≡ true) (r : isSid (g .group) ≡ t
     unfolding copyOf
     mask-is = remade-mask access rev e w flags mask ok put one (omega (arith, mask-low))
 
-    pub copy-is : Copy g e flags (copyOf g flags e)
+    pub copy-is : Small (copyOf g flags e) → Copy g e flags (copyOf g flags e)
     unfolding copyOf
-    copy-is =
+    copy-is small =
         record {
-          kind = remade-kind access rev e w flags mask ok put one;
+          kind = copy-kind;
           flags-are = copy-flags;
           word = remade-word access rev e w flags mask ok put one;
+          tail = copy-tail small;
           sid = copy-sid;
           mask = mask-is ∙ last-mended (g .rule) (g .mapping) (maskOf e) m;
         }
@@ -154,6 +165,12 @@ module _ (g : Given) (o : isSid (g .owner) ≡ true) (r : isSid (g .group) ≡ t
   emit-ordinary po pr =
       every-given _ (rw (copy-sid g o r rev e w (flagsBy p (flagsOf e)) known) (in-place-ordinary (sidOf e) (g .owner) (g .group) po pr))
 
+  -- each has the entry's type, and what follows its SID
+  pub emit-kept : Every (λ x. Small x → (kindOf x ≡ kindOf e) × (tailOf x ≡ tailOf e)) (emitOf g p e)
+  emit-kept =
+      let flags = flagsBy p (flagsOf e) in
+      every-given _ (λ small. (copy-kind g o r rev e w flags known, copy-tail g o r rev e w flags known small))
+
   -- under a rule that mends, each with a mask below the generic bits
   pub emit-low : mends (g .rule) ≡ true → Every Low (emitOf g p e)
   emit-low m = every-given _ (copy-low g o r rev e w (flagsBy p (flagsOf e)) known m)
@@ -165,27 +182,33 @@ module _ (g : Given) (o : isSid (g .owner) ≡ true) (r : isSid (g .group) ≡ t
 
 -- what each entry gives, a pass gives, and a plan
 module _ (g : Given) (P : List ℕ → Type 0) where
-  every-emitted : (p : Pass) (rev : ℕ) → ((e : List ℕ) → Whole access rev e → Every P (emitOf g p e))
-      → (es : List (List ℕ)) → Every (Whole access rev) es → Every P (emitAll g p es)
+  every-emitted : (Q : List ℕ → Type 0) (p : Pass) → ((e : List ℕ) → Q e → Every P (emitOf g p e))
+      → (es : List (List ℕ)) → Every Q es → Every P (emitAll g p es)
   unfolding emitAll
-  every-emitted p rev f [] a = tt
-  every-emitted p rev f (e ∷ es) a = every-append P (emitOf g p e) (emitAll g p es) (f e (a .0)) (every-emitted p rev f es (a .1))
+  every-emitted Q p f [] a = tt
+  every-emitted Q p f (e ∷ es) a = every-append P (emitOf g p e) (emitAll g p es) (f e (a .0)) (every-emitted Q p f es (a .1))
 
-  module _ (f : (p : Pass) (rev : ℕ) (e : List ℕ) → Whole access rev e → Every P (emitOf g p e)) where
-    under : (p : Pass) (rev : ℕ) (b : Bool) (es : List (List ℕ)) → Every (Whole access rev) es → Every P (emitAll g p (cond b es []))
-    under p rev b es a = every-emitted p rev (f p rev) (cond b es []) (every-cond (Whole access rev) b es a)
+  under : (Q : List ℕ → Type 0) (p : Pass) → ((e : List ℕ) → Q e → Every P (emitOf g p e)) → (b : Bool) (es : List (List ℕ)) → Every Q es → Every P (emitAll g p (cond b es []))
+  under Q p f b es a = every-emitted Q p f (cond b es []) (every-cond Q b es a)
 
-    every-planned : (q : Plan) (ps cs ds : List (List ℕ)) (rp rc rd : ℕ)
-        → Every (Whole access rp) ps → Every (Whole access rc) cs → Every (Whole access rd) ds → Every P (planned g q ps cs ds)
+  -- of entries of which something is known, by the list that they are of
+  module _ (Qp Qc Qd : List ℕ → Type 0) (fp : (p : Pass) (e : List ℕ) → Qp e → Every P (emitOf g p e)) (fc : (p : Pass) (e : List ℕ) → Qc e → Every P (emitOf g p e))
+      (fd : (p : Pass) (e : List ℕ) → Qd e → Every P (emitOf g p e)) where
+    pub every-planned-by : (q : Plan) (ps cs ds : List (List ℕ)) → Every Qp ps → Every Qc cs → Every Qd ds → Every P (planned g q ps cs ds)
     unfolding planned
-    every-planned q ps cs ds rp rc rd wp wc wd =
+    every-planned-by q ps cs ds hp hc hd =
         let mine = emitAll g Own (cond (q .own) cs []) in
         let first = emitAll g First (cond (q .parent) ps []) in
         let second = emitAll g Second (cond (q .parent) ps []) in
         let rest = emitAll g All (cond (q .default) ds []) in
-        every-append P mine (first ++ (second ++ rest)) (under Own rc (q .own) cs wc)
-        (every-append P first (second ++ rest) (under First rp (q .parent) ps wp)
-        (every-append P second rest (under Second rp (q .parent) ps wp) (under All rd (q .default) ds wd)))
+        every-append P mine (first ++ (second ++ rest)) (under Qc Own (fc Own) (q .own) cs hc)
+        (every-append P first (second ++ rest) (under Qp First (fp First) (q .parent) ps hp)
+        (every-append P second rest (under Qp Second (fp Second) (q .parent) ps hp) (under Qd All (fd All) (q .default) ds hd)))
+
+  -- of whole ones
+  every-planned : ((p : Pass) (rev : ℕ) (e : List ℕ) → Whole access rev e → Every P (emitOf g p e)) → (q : Plan) (ps cs ds : List (List ℕ)) (rp rc rd : ℕ)
+      → Every (Whole access rp) ps → Every (Whole access rc) cs → Every (Whole access rd) ds → Every P (planned g q ps cs ds)
+  every-planned f q ps cs ds rp rc rd = every-planned-by (Whole access rp) (Whole access rc) (Whole access rd) (λ p. f p rp) (λ p. f p rc) (λ p. f p rd) q ps cs ds
 
 -- entries that are whole under revision 4 are so under the revision that they ask for
 or-false : (a b : Bool) → (a || b) ≡ false → (a ≡ false) × (b ≡ false)

@@ -6,7 +6,7 @@ use mathlib.Core.Logic.{_⊎_}
 use mathlib.Core.Option.{none, some}
 use Prim.Native.Nat.{ℕ, _^_, _<_}
 use Rattle.octets.specs.Bytes.{has}
-use Rattle.list.specs.Entry.{flagsOf, maskOf}
+use Rattle.list.specs.Entry.{kindOf, flagsOf, maskOf, tailOf}
 use Rattle.list.specs.List.{entriesOf, MaybeList}
 use Rattle.list.specs.Good.{Every}
 use Rattle.inherit.specs.declared.Mapping.{Mapping}
@@ -71,3 +71,14 @@ pub record Default (a : Asked) (e : List ℕ) (flags : ℕ) : Type 0 where
 -- an entry of a list that was given, and the flags of its copy in the result
 abbrev pub Copied : Asked → List ℕ → ℕ → Type 0
 Copied a e flags = Inherited a e flags ⊎ (Own a e flags ⊎ Default a e flags)
+
+-- the entries of all lists that were given
+abbrev pub givenEntries : Asked → List (List ℕ)
+givenEntries a = entriesIf (a .parent) ++ (entriesIf (a .creator) ++ entriesIf (a .default))
+
+-- x has the type of one of these entries and, byte for byte, what follows that one's SID: a conditional entry's expression
+pub record Kept (es : List (List ℕ)) (x : List ℕ) : Type 0 where
+  pub entry : List ℕ
+  pub stands : Stands entry es
+  pub kind : kindOf x ≡ kindOf entry
+  pub tail : tailOf x ≡ tailOf entry

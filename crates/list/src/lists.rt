@@ -3,7 +3,7 @@ ghost use mathlib.Core.Path.{_≡_};
 ghost use mathlib.Core.List.{_++_};
 ghost use Prim.Native.Nat.{_+_, _≤_, _<_};
 ghost use lib.ListN.{length, drop};
-ghost use Rattle.list.specs.Entry.{access, entryOf};
+ghost use Rattle.list.specs.Entry.{access, sizeOf, entryOf};
 ghost use Rattle.list.specs.List.{revOk, headerOk, offsets, walkOf, finish, checkOf, readOf, rowBy};
 ghost use Rattle.list.specs.Answer.{readingValues, checkValues, readValues};
 ghost use Rattle.list.specs.Good.{Listed};
@@ -98,6 +98,16 @@ pub fn check(list: &[u8]) -> Reading
     walk(list, list[0], half_in(list, 4))
 }
 
+// The size of the entry at an offset, of a list that has its four bytes. The index's loop asks for nothing else, and a test whether they are there would
+// cost as much as the rest of it.
+fn size_at(list: &[u8], at: usize) -> u16
+    requires { ⌜ at + 4 ≤ length (now list) ⌝ }
+    ensures { λ r. ⌜ r ≡ sizeOf (drop at (now (list .entry))) ⌝ }
+{
+    let low = at + 2;
+    (list[low] as u16) + 256 * (list[low + 1] as u16)
+}
+
 // The offsets of the entries of a good list, on the front of the row.
 fn fill(list: &[u8], count: u16, row: &mut [u16])
     requires { ⌜ Listed access (now list) count × (count ≤ length (now row)) ⌝ }
@@ -108,7 +118,7 @@ fn fill(list: &[u8], count: u16, row: &mut [u16])
     let mut i: usize = 0;
     while i < n {
         row[i] = at as u16;
-        at = at + half_in(list, at + 2) as usize;
+        at = at + size_at(list, at) as usize;
         i = i + 1;
     }
 }

@@ -1,11 +1,11 @@
 -- `i` offsets stand in the row, and the next entry lies at `at` (`Filled`). Assumes nothing.
 use borrow.Author.Needs.{needs}
 use native.Mathlib.Omega.{arith}
-use mathlib.Core.Path.{_≡_, _∙_}
+use mathlib.Core.Path.{_≡_}
 use Prim.Native.Nat.{_+_, _-_, _<_}
 use denote.Ref.{now}
 use lib.ListN.{length, drop, length-drop}
-use lib.Seq.{getD-drop, drop-drop}
+use lib.Seq.{getD-drop}
 use Rattle.list.specs.Entry.{access, sizeOf}
 use Rattle.list.specs.List.{revOf}
 use Rattle.list.specs.Good.{Sound}
@@ -31,9 +31,9 @@ entry-here : (c : tie.In-loop Inv-loop μ-loop)
     → let s = now (c .before .before .before .before .args .list) in Sound access (revOf s) (drop (c .before .loop .at) s)
 entry-here c = next access _ _ _ _ _ _ (c .before .loop .inv) (c .loop-test .taken) .0
 
-size-is : (c : tie.After-half-in Inv-loop μ-loop)
-    → c .half-in .result ≡ sizeOf (drop (c .before .before .loop .at) (now (c .before .before .before .before .before .args .list)))
-size-is c = c .half-in .ensures ∙ simp drop-drop
+size-is : (c : tie.After-size-at Inv-loop μ-loop)
+    → c .size-at .result ≡ sizeOf (drop (c .before .before .loop .at) (now (c .before .before .before .before .before .args .list)))
+size-is c = omega (arith, c .size-at .ensures)
 
 loop-holds : tie.Need-loop-holds Inv-loop μ-loop
 loop-holds c = filled-none access _ _ _ (c .before .before .pre .0)
@@ -47,11 +47,8 @@ mul-row c = omega arith
 slice-write-row : tie.Need-slice-write-row Inv-loop μ-loop
 slice-write-row c = omega arith
 
-add-half-in : tie.Need-add-half-in Inv-loop μ-loop
-add-half-in c = omega (arith, small (c .before))
-
-half-in-requires : tie.Need-half-in-requires Inv-loop μ-loop
-half-in-requires c κs = omega (arith, entry-here c .four, length-drop (c .before .loop .at) (now (c .before .before .before .before .args .list)))
+size-at-requires : tie.Need-size-at-requires Inv-loop μ-loop
+size-at-requires c κs = omega (arith, entry-here c .four, length-drop (c .before .loop .at) (now (c .before .before .before .before .args .list)))
 
 cast-at : tie.Need-cast-at Inv-loop μ-loop
 cast-at c = search needs
@@ -84,8 +81,7 @@ fill-spec =
     cast-row
     mul-row
     slice-write-row
-    add-half-in
-    half-in-requires
+    size-at-requires
     cast-at
     add-at
     add-i
