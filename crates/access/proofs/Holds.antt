@@ -16,7 +16,7 @@ use Rattle.octets.proofs.Places.{split}
 use Rattle.octets.proofs.Same.{same-no}
 use Rattle.list.proofs.Sids.{whole-short, whole-sid, whole-says, whole-joined, one-sid, sid-length}
 use Rattle.access.specs.Held.{sidsIn, heldOf, toEnd}
-use Rattle.access.specs.Inner.Decide.{heldFault, lastOf}
+use Rattle.access.specs.Inner.Decide.{heldFault}
 
 -- ---- one after the other
 
@@ -178,17 +178,6 @@ module _ (h : List ℕ) (at count : ℕ) (c : Counted h at count) where
     counted-fine p = rw (eq-eqb _ _ to-end, all, le-leb count 32)
 
 -- ---- comparing them
-
--- another byte at a place counted from the end, so another SID
-pub other-byte : (k : ℕ) (s h : List ℕ) (at end : ℕ) → 0 < k → at + k ≤ end → end ≤ length h → (getD h (end - k) 0 ≡ lastOf k s → ⊥)
-    → sameBytes (take (end - at) (drop at h)) s ≡ false
-other-byte k s h at end z p q f =
-    let a = take (end - at) (drop at h) in
-    let l : length a ≡ end - at = length-take-le (end - at) (drop at h) (omega (arith, length-drop at h)) in
-    let e : at + (length a - k) ≡ end - k = omega (arith, l) in
-    let m : getD h (end - k) 0 ≡ lastOf k a =
-    ap (λ (n : ℕ). getD h n 0) (sym e) ∙ sym (getD-take (end - at) (drop at h) (length a - k) 0 (omega (arith, l)) ∙ getD-drop at h (length a - k) 0) in
-    same-no a s (λ r. f (m ∙ ap (lastOf k) r))
 
 -- none before `at` is s; those from there on are SIDs to their end
 pub record Looks (s h : List ℕ) (at : ℕ) : Type 0 where

@@ -3,12 +3,12 @@ use mathlib.Core.Path.{_≡_, refl, sym, ap, ap₂, _∙_}
 use mathlib.Core.Bool.{Bool, true, false, cond, _&&_}
 use mathlib.Core.List.{List, [], _∷_}
 use mathlib.Core.Option.{none, some}
-use Prim.Native.Nat.{ℕ, zero, suc, _+_, _-_, _≤_, _<_}
+use Prim.Native.Nat.{ℕ, zero, suc, _+_, _-_, _%_, _≤_, _<_}
 use native.Mathlib.Omega.{arith}
 use lib.ListN.{length, take, drop, length-drop}
 use lib.Seq.{drop-drop}
-use lib.Dec.{leb, ltb}
-use borrow.Author.Tests.{eq-eqb, ne-eqb, lt-ltb, le-ltb, leb-true}
+use lib.Dec.{eqb, leb, ltb}
+use borrow.Author.Tests.{eq-eqb, ne-eqb, lt-ltb, le-ltb, eqb-true, leb-true, ltb-true}
 use Rattle.octets.specs.Bytes.{le, sameBytes}
 use Rattle.octets.proofs.Places.{split, rest-is}
 use Rattle.octets.proofs.Tests.{both-true, false-or}
@@ -32,10 +32,16 @@ long-none t e = rw e
 pub long-empty : (t : List ℕ) → length t ≡ 0 → recordLong t ≡ 0
 long-empty t z = long-none t (false-or (whole t) (λ w. absurd (omega (arith, leb-true (10 + le 2 t) (length t) (both-true (nameOk (le 2 t)) _ w .1)))))
 
+-- a name has two bytes at least
+name-two : (n : ℕ) → nameOk n ≡ true → 2 ≤ n
+unfolding nameOk
+name-two n h = let b = both-true (ltb 0 n) (eqb (n % 2) 0) h in omega (arith, ltb-true 0 n (b .0), eqb-true (n % 2) 0 (b .1))
+
 -- a record of so many bytes lies at `at`
 pub record Lies (table : List ℕ) (at long : ℕ) : Type 0 where
   pub is : long ≡ recordLong (drop at table)
   pub made : long ≡ 10 + le 2 (drop at table)
+  pub named : 2 ≤ le 2 (drop at table)
   pub inside : at + long ≤ length table
 
 pub lies : (table : List ℕ) (at long : ℕ) → long ≡ recordLong (drop at table) → 0 < long → Lies table at long
@@ -45,8 +51,9 @@ lies table at long e p = by (whole (drop at table)) refl
     by true w =
         let t = drop at table in
         let m : long ≡ 10 + le 2 t = e ∙ long-whole t w in
-        let i = leb-true (10 + le 2 t) (length t) (both-true (nameOk (le 2 t)) (leb (10 + le 2 t) (length t)) w .1) in
-        record { is = e; made = m; inside = omega (arith, m, i, length-drop at table) }
+        let b = both-true (nameOk (le 2 t)) (leb (10 + le 2 t) (length t)) w in
+        let i = leb-true (10 + le 2 t) (length t) (b .1) in
+        record { is = e; made = m; named = name-two (le 2 t) (b .0); inside = omega (arith, m, i, length-drop at table) }
     by false w = absurd (omega (arith, e, long-none (drop at table) w))
 
 -- ---- one after the other

@@ -1,6 +1,6 @@
 // Conditional expressions in their stored form: which are acceptable, and what they say under a table of names.
 ghost use mathlib.Core.Path.{_≡_};
-ghost use Rattle.condition.specs.Kind.{storedEnd, storedAlone as Kind·storedAlone};
+ghost use Rattle.condition.specs.Kind.{storedEnd, storedAlone};
 ghost use Rattle.condition.specs.Table.{tableOk};
 ghost use Rattle.condition.specs.Meaning.{saidBy, evaluateOf};
 
@@ -43,11 +43,11 @@ pub fn table_ok(table: &[u8]) -> bool
     well_made(table)
 }
 
-// Whether an expression of so many bytes, whose tokens end there, is alone: without padding, or padded to a multiple of four.
-fn stored_alone(expression: &[u8]) -> bool
-    ensures { λ r. ⌜ r ≡ Kind·storedAlone (now (expression .entry)) ⌝ }
+// Whether an expression, whose tokens end at `end`, is alone: without padding, or padded to a multiple of four.
+fn is_alone(expression: &[u8], end: usize) -> bool
+    requires { ⌜ end ≡ storedEnd (now expression) ⌝ }
+    ensures { λ r. ⌜ r ≡ storedAlone (now (expression .entry)) ⌝ }
 {
-    let end = check(expression);
     if end == 0 {
         return false;
     }
@@ -61,11 +61,13 @@ fn stored_alone(expression: &[u8]) -> bool
 pub fn evaluate(expression: &[u8], table: &[u8]) -> Evaluated
     ensures { λ r. ⌜ r ≡ evaluateOf (now (expression .entry)) (now (table .entry)) ⌝ }
 {
-    if !stored_alone(expression) {
+    let ran = run(expression, table);
+    if !is_alone(expression, ran.end) {
         return Evaluated::Refused(15);
     }
     if !table_ok(table) {
         return Evaluated::Refused(23);
     }
-    Evaluated::Done(said(expression, table))
+    let truth = ran.truth;
+    Evaluated::Done(truth)
 }

@@ -1,8 +1,8 @@
 // The table of names where it lies.
 ghost use mathlib.Core.Path.{_≡_};
-ghost use Prim.Native.Nat.{_+_, _≤_, _<_};
-ghost use lib.ListN.{length, drop};
-ghost use Rattle.octets.specs.Bytes.{le};
+ghost use Prim.Native.Nat.{_+_, _-_, _≤_, _<_};
+ghost use lib.ListN.{length, take, drop};
+ghost use Rattle.octets.specs.Bytes.{le, sameBytes};
 ghost use Rattle.condition.specs.Table.{recordLong, recordAt, attributesOf, valueIn, missing, wellMade};
 ghost use Rattle.condition.specs.Inner.Cells.{keyOf, foundBy};
 use crate::tokens::name_ok;
@@ -45,6 +45,20 @@ fn record_long(t: &[u8]) -> usize
     10 + n
 }
 
+// Whether the name from `at` to `end` is that one. The low byte of its last unit is looked at first: there names of one sort, as area1 and area2, differ.
+fn is_called(table: &[u8], at: usize, end: usize, name: &[u8]) -> bool
+    requires { ⌜ (at + 2 ≤ end) × (end ≤ length (now table)) ⌝ }
+    ensures { λ r. ⌜ r ≡ sameBytes (take (end - at) (drop at (now (table .entry)))) (now (name .entry)) ⌝ }
+{
+    if name.len() != end - at {
+        return false;
+    }
+    if table[end - 2] != name[name.len() - 2] {
+        return false;
+    }
+    same_bytes(&table[at..end], name)
+}
+
 // The number of a name in the records from `from` on.
 pub(crate) fn find(table: &[u8], from: usize, name: &[u8]) -> Found
     requires { ⌜ from ≤ length (now table) ⌝ }
@@ -56,7 +70,7 @@ pub(crate) fn find(table: &[u8], from: usize, name: &[u8]) -> Found
         if long == 0 {
             return Found::Missing;
         }
-        if same_bytes(&table[at + 2..at + long - 8], name) {
+        if is_called(table, at + 2, at + long - 8, name) {
             return Found::Known(key_in(&table[at + long - 8..]));
         }
         at += long;

@@ -2,10 +2,10 @@
 use mathlib.Core.Path.{_≡_, refl, sym, ap, ap₂, _∙_}
 use mathlib.Core.Bool.{Bool, true, false, _&&_, and-assoc}
 use mathlib.Core.List.{List, [], _∷_, _++_}
-use Prim.Native.Nat.{ℕ, _+_, _≤_}
+use Prim.Native.Nat.{ℕ, _+_, _-_, _≤_, _<_}
 use native.Mathlib.Omega.{arith}
-use lib.ListN.{length, take, drop, length-drop, take-append-drop}
-use lib.Seq.{drop-drop, length-take-le}
+use lib.ListN.{length, getD, take, drop, length-drop, take-append-drop}
+use lib.Seq.{getD-take, getD-drop, drop-drop, length-take-le}
 use lib.Dec.{eqb}
 use borrow.Author.Tests.{eq-eqb, eqb-true}
 use Rattle.octets.specs.Bytes.{Bytes, le, sameBytes}
@@ -36,6 +36,17 @@ same-no a b f = false-or (sameBytes a b) (λ h. f (same-true a b h))
 -- lists of other lengths are not the same
 pub same-length : (a b : List ℕ) → (length a ≡ length b → ⊥) → sameBytes a b ≡ false
 same-length a b f = same-no a b (λ e. f (ap length e))
+
+-- nor are those with another byte at a place counted from the end
+pub other-byte : (k : ℕ) (s h : List ℕ) (at end : ℕ) → 0 < k → at + k ≤ end → end ≤ length h → (getD h (end - k) 0 ≡ getD s (length s - k) 0 → ⊥)
+    → sameBytes (take (end - at) (drop at h)) s ≡ false
+other-byte k s h at end z p q f =
+    let a = take (end - at) (drop at h) in
+    let l : length a ≡ end - at = length-take-le (end - at) (drop at h) (omega (arith, length-drop at h)) in
+    let e : at + (length a - k) ≡ end - k = omega (arith, l) in
+    let m : getD h (end - k) 0 ≡ getD a (length a - k) 0 =
+    ap (λ (n : ℕ). getD h n 0) (sym e) ∙ sym (getD-take (end - at) (drop at h) (length a - k) 0 (omega (arith, l)) ∙ getD-drop at h (length a - k) 0) in
+    same-no a s (λ r. f (m ∙ ap (λ (b : List ℕ). getD b (length b - k) 0) r))
 
 -- bytes are compared by numbers of any width
 same-split : (p q r t : List ℕ) → length p ≡ length r → sameBytes (p ++ q) (r ++ t) ≡ (sameBytes p r && sameBytes q t)

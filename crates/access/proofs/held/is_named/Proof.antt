@@ -3,7 +3,7 @@ use borrow.Author.Needs.{needs}
 use native.Mathlib.Omega.{arith}
 use mathlib.Core.Path.{sym, _∙_}
 use denote.Ref.{now}
-use Rattle.access.proofs.Holds.{other-byte}
+use Rattle.octets.proofs.Same.{other-byte}
 use Rattle.access.proofs.held.is_named.Statement.{statement}
 use Rattle.access.proofs.held.is_named.Tie as tie
 

@@ -56,41 +56,32 @@ returns c =
     let a = l .before .before .before .args in
     sym (ap foundBy (sought-bad (now (a .table)) (now (a .name)) (a .from) (l .loop .at) (l .loop .inv) (sym (long-is (c .before)) ∙ c .if1 .taken)))
 
-add-same-bytes : tie.Need-add-same-bytes Inv-loop μ-loop
-add-same-bytes c = let n = next c in omega arith
+add-is-called : tie.Need-add-is-called Inv-loop μ-loop
+add-is-called c = let n = next c in omega arith
 
-add-same-bytes-2 : tie.Need-add-same-bytes-2 Inv-loop μ-loop
-add-same-bytes-2 c = let n = next c in omega arith
+add-is-called-2 : tie.Need-add-is-called-2 Inv-loop μ-loop
+add-is-called-2 c = let n = next c in omega arith
 
-sub-same-bytes : tie.Need-sub-same-bytes Inv-loop μ-loop
-sub-same-bytes c = let n = next c in omega arith
+sub-is-called : tie.Need-sub-is-called Inv-loop μ-loop
+sub-is-called c = let n = next c in omega arith
 
-sub-same-bytes-2 : tie.Need-sub-same-bytes-2 Inv-loop μ-loop
-sub-same-bytes-2 c = let n = next c in omega arith
-
-part-same-bytes-start : tie.Need-part-same-bytes-start Inv-loop μ-loop
-part-same-bytes-start c = let n = next c in omega arith
-
-part-same-bytes-end : tie.Need-part-same-bytes-end Inv-loop μ-loop
-part-same-bytes-end c = let n = next c in omega arith
-
-same-bytes-requires : tie.Need-same-bytes-requires Inv-loop μ-loop
-same-bytes-requires c κs = search needs
+is-called-requires : tie.Need-is-called-requires Inv-loop μ-loop
+is-called-requires c κs = let n = next c in (omega arith, omega arith)
 
 add-key-in : tie.Need-add-key-in Inv-loop μ-loop
-add-key-in c = let n = next (c .before .before .before) in omega arith
+add-key-in c = let n = next (c .before .before) in omega arith
 
 sub-key-in : tie.Need-sub-key-in Inv-loop μ-loop
-sub-key-in c = let n = next (c .before .before .before) in omega arith
+sub-key-in c = let n = next (c .before .before) in omega arith
 
 sub-key-in-2 : tie.Need-sub-key-in-2 Inv-loop μ-loop
-sub-key-in-2 c = let n = next (c .before .before .before) in omega arith
+sub-key-in-2 c = let n = next (c .before .before) in omega arith
 
 part-key-in-start : tie.Need-part-key-in-start Inv-loop μ-loop
-part-key-in-start c = let n = next (c .before .before .before) in omega arith
+part-key-in-start c = let n = next (c .before .before) in omega arith
 
 part-key-in-end : tie.Need-part-key-in-end Inv-loop μ-loop
-part-key-in-end c = let n = next (c .before .before .before) in omega arith
+part-key-in-end c = let n = next (c .before .before) in omega arith
 
 key-in-requires : tie.Need-key-in-requires Inv-loop μ-loop
 key-in-requires c κs = search needs
@@ -99,27 +90,27 @@ returns-2 : tie.Need-returns-2 Inv-loop μ-loop
 unfolding foundBy
 returns-2 c =
     let k = c .before .before .before in
-    let e = k .before .before in
+    let e = k .before in
     let l = e .before .before .before .before in
     let a = l .before .before .before .args in
     ap Known (c .key-in .ensures)
     ∙ sym (ap foundBy
     (sought-found (now (a .table)) (now (a .name)) (a .from) (l .loop .at) (l .loop .inv) (e .before .record-long .result) (next e)
-    (sym (k .same-bytes .ensures) ∙ c .before .before .if2 .taken)))
+    (sym (k .is-called .ensures) ∙ c .before .before .if2 .taken)))
 
 add-at : tie.Need-add-at Inv-loop μ-loop
-add-at c = let n = next (c .before .before .before) in omega arith
+add-at c = let n = next (c .before .before) in omega arith
 
 loop-less : tie.Need-loop-less Inv-loop μ-loop
-loop-less c = let n = next (c .before .before .before) in omega arith
+loop-less c = let n = next (c .before .before) in omega arith
 
 loop-again : tie.Need-loop-again Inv-loop μ-loop
 loop-again c =
-    let e = c .before .before .before in
+    let e = c .before .before in
     let l = e .before .before .before .before in
     let a = l .before .before .before .args in
     sought-more (now (a .table)) (now (a .name)) (a .from) (l .loop .at) (l .loop .inv) (e .before .record-long .result) (next e)
-    (sym (c .before .same-bytes .ensures) ∙ c .if2 .left)
+    (sym (c .before .is-called .ensures) ∙ c .if2 .left)
 
 returns-3 : tie.Need-returns-3 Inv-loop μ-loop
 unfolding foundBy
@@ -140,13 +131,10 @@ find-spec =
     part-record-long-end
     record-long-requires
     returns
-    add-same-bytes
-    add-same-bytes-2
-    sub-same-bytes
-    sub-same-bytes-2
-    part-same-bytes-start
-    part-same-bytes-end
-    same-bytes-requires
+    add-is-called
+    add-is-called-2
+    sub-is-called
+    is-called-requires
     add-key-in
     sub-key-in
     sub-key-in-2
