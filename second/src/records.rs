@@ -6,6 +6,8 @@ mod conditional;
 mod opening;
 mod playing;
 mod reader;
+#[cfg(test)]
+mod testing;
 
 use crate::access::Question;
 use crate::computing::Request;

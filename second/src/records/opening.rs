@@ -86,7 +86,7 @@ pub fn step_line(list: &[u8], place: u32) -> String {
 mod tests {
     use super::*;
     use crate::hex;
-    use crate::records::{answer_lines, decode_all, encode_all};
+    use crate::records::{answer_lines, testing};
 
     fn question() -> Question {
         Question {
@@ -111,27 +111,15 @@ mod tests {
 
     #[test]
     fn records_are_laid_out_as_agreed() {
-        let cases = cases();
-        let file = encode_all(&cases);
         let expected = "10 000000 02010000 03000000 01000000 01020304 \
             EEEEEEEEEEEEEEEEEEEEEEEEEEEEEEEE A0A1A2 B0 \
             11 000000 02000000 06050000 C0C1  00";
-        assert_eq!(file, hex::decode(expected).unwrap());
-        assert_eq!(decode_all(&file).unwrap(), cases);
-        for cut in 0..file.len() {
-            assert!(decode_all(&file[..cut]).is_err(), "cut at {cut}");
-        }
+        testing::laid_out(&cases(), expected);
     }
 
     #[test]
     fn other_heads_are_told() {
-        for case in cases() {
-            for at in 1..4 {
-                let mut file = encode_all(std::slice::from_ref(&case));
-                file[at] = 1;
-                assert!(decode_all(&file).unwrap_err().contains("unknown head"));
-            }
-        }
+        testing::other_heads_told(&cases());
     }
 
     #[test]
@@ -141,10 +129,7 @@ mod tests {
             (&cases()[0], 12, LONGEST_HELD + 1),
             (&cases()[1], 4, LONGEST_LIST + 1),
         ] {
-            let mut file = encode_all(std::slice::from_ref(case));
-            file.resize(80_000, 0);
-            file[at..at + 4].copy_from_slice(&(over as u32).to_le_bytes());
-            assert!(decode_all(&file).unwrap_err().contains("too long"));
+            testing::too_long_told(case, at, over);
         }
     }
 
