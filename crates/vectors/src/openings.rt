@@ -145,7 +145,15 @@ fn agrees(found: Found, answer: [u32; 8], entry: [u32; 8]) -> bool {
     }
 }
 
-// False where the walker and the call tell differently of the first entry.
+// Whether a walker goes past the entry that the call told of to where the call said that the next one begins.
+fn goes_past(list: &[u8], answer: [u32; 8], entry: [u32; 8]) -> bool {
+    if answer[4] == 0 {
+        return true;
+    }
+    access::next_at(access::walked(list), answer[3] as usize) == entry[7] as usize
+}
+
+// False where the walker and the call tell differently of the entry, or of the first one.
 fn run_step(list: &[u8], place: u32) -> bool {
     let mut answer = [0u32; 8];
     let mut entry = [0u32; 8];
@@ -154,6 +162,9 @@ fn run_step(list: &[u8], place: u32) -> bool {
     print_space();
     print_values(entry, 8);
     end_line();
+    if !goes_past(list, answer, entry) {
+        return false;
+    }
     if 8 < place {
         return true;
     }
