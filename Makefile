@@ -41,7 +41,7 @@ endif
 
 .PHONY: play axs examples c_examples test quick edits lib second stand_in hostile cases bench
 .PHONY: compare compare_built compare_tests compare_list compare_compute compare_access compare_condition compare_tree compare_deep
-.PHONY: compare_script compare_program
+.PHONY: compare_script compare_program compare_wording
 
 play: axs
 	@$(EMULATED) target/bin/axs <$(SCRIPT)
@@ -101,7 +101,7 @@ stand_in: lib
 
 # each layer by itself, so that `make -j` compares several at a time
 COMPARE = $(CARGO_DIR)/release/compare
-compare: compare_list compare_compute compare_tree compare_deep compare_script compare_program compare_access compare_condition
+compare: compare_list compare_compute compare_tree compare_deep compare_script compare_program compare_access compare_condition compare_wording
 
 compare_built: lib axs $(STAND_IN)
 	$(CARGO) --manifest-path compare/Cargo.toml
@@ -110,7 +110,7 @@ compare_built: lib axs $(STAND_IN)
 compare_tests: compare_built
 	cargo test --quiet --release --offline --target-dir $(CARGO_DIR) --manifest-path compare/Cargo.toml
 
-compare_list compare_compute compare_access compare_condition: compare_%: compare_built
+compare_list compare_compute compare_access compare_condition compare_wording: compare_%: compare_built
 	tools/timed $* $(COMPARE) $* --cases $(CASES) --seed $(SEED)
 
 compare_tree: compare_built

@@ -25,11 +25,14 @@ extern uint64_t truths[TRUTHS];
 /* Conditional entries that decided something: passed over as false, or an allow as unknown; an allow as true; a deny as true or as unknown. */
 enum { PASSED_FALSE, PASSED_UNKNOWN, ALLOW_TRUE, DENY_TRUE, DENY_UNKNOWN, CONDITIONS };
 extern uint64_t conditions[CONDITIONS];
+/* Texts of pt_condition: taken with 64 tokens, nested 12 deep and of 512 bytes; refused as over 512 bytes, and at their end. */
+enum { TEXT_OF_64, TEXT_NESTED, TEXT_LONGEST, TEXT_TOO_LONG, TEXT_CUT, TEXTS };
+extern uint64_t texts[TEXTS];
 
 Case case_identity, case_read, case_compute, case_play;
 Case case_room, case_start, case_add, case_set_list, case_set_mark, case_set_owner, case_undo;
 Case case_list, case_own, case_data, case_counts;
-Case case_may_open, case_may_open_with, case_step, case_evaluate;
+Case case_may_open, case_may_open_with, case_step, case_evaluate, case_condition;
 
 /* In lists.c, for all: */
 void lend_answer(void);

@@ -29,6 +29,8 @@ enum {
     NO_TREE = 1 << 13,
     GENERIC = 1 << 14,
     EXPRESSION = 1 << 15,                     /* of pt_evaluate; elsewhere it is a list's */
+    NOT_A_TEXT = 1 << 16,
+    TOO_LARGE = 1 << 17,
     BAD_TABLE = 1 << 23,
     CREATOR_OWNER_OR_GROUP = 1 << 1 | 1 << 2, /* of pt_identity */
     SOME_BYTES = 1 << 1,                      /* of pt_room: any size but 0 */
@@ -48,8 +50,8 @@ static struct {
 } calls[] = {
     {"pt_identity", 60, case_identity, DONE | CREATOR_OWNER_OR_GROUP | IDENTITY,
      {[0] = 9350, [1] = 780, [2] = 590, [6] = 4100}, 0, 0, 0, {0}},
-    {"pt_read", 160, case_read, DONE | LIST | NO_ROOM,
-     {[0] = 19500, [1] = 4150, [2] = 4550, [3] = 1350, [4] = 1700, [5] = 1700, [8] = 5250, [15] = 1000}, 5700, 0, 0, {0}},
+    {"pt_read", 120, case_read, DONE | LIST | NO_ROOM,
+     {[0] = 14600, [1] = 3100, [2] = 3400, [3] = 1000, [4] = 1250, [5] = 1250, [8] = 3900, [15] = 750}, 4250, 0, 0, {0}},
     {"pt_step", 60, case_step, DONE | LIST,
      {[0] = 11000, [1] = 1050, [2] = 1100, [3] = 330, [4] = 430, [5] = 430, [15] = 250}, 3000, 0, 0, {0}},
     {"pt_may_open", 60, case_may_open, DONE | LIST | IDENTITY | TOO_MANY_HELD | GENERIC,
@@ -58,6 +60,8 @@ static struct {
      {[0] = 6500, [15] = 6750, [23] = 1700}, 0, 0, 0, {0}},
     {"pt_may_open_with", 60, case_may_open_with, DONE | LIST | IDENTITY | TOO_MANY_HELD | GENERIC | BAD_TABLE,
      {[0] = 7850, [1] = 310, [2] = 340, [3] = 75, [4] = 120, [5] = 120, [6] = 1500, [7] = 1050, [14] = 1250, [15] = 55, [23] = 2000}, 1700, 0, 0, {0}},
+    {"pt_condition", 40, case_condition, DONE | NO_ROOM | NOT_A_TEXT | TOO_LARGE,
+     {[0] = 3350, [8] = 2000, [16] = 3250, [17] = 560}, 0, 0, 0, {0}},
     {"pt_compute", 120, case_compute, DONE | LIST | IDENTITY | TYPES_7 | NO_ROOM | RULE,
      {[0] = 14500, [1] = 1200, [2] = 470, [3] = 150, [4] = 170, [5] = 160, [6] = 2400, [7] = 2750, [8] = 6500, [12] = 1200, [15] = 110}, 4200, 0, 0, {0}},
     {"pt_room", 30, case_room, DONE | SOME_BYTES,
@@ -95,8 +99,8 @@ static const struct {
     uint32_t least;
 } totals[] = {
     {"ranges lent for a second parameter", &lent_twice, 25000},
-    {"lists read of 65,533 to 65,535 bytes", &long_lists, 16},
-    {"lists read whose spare bytes begin like an entry", &entry_lists, 2200},
+    {"lists read of 65,533 to 65,535 bytes", &long_lists, 12},
+    {"lists read whose spare bytes begin like an entry", &entry_lists, 1650},
     {"answers yes by a list's allows", &decisions[ALLOWED], 1700},
     {"answers no by a deny", &decisions[DENIED], 2700},
     {"answers no as no entry has a bit", &decisions[NOT_SAID], 9200},
@@ -110,6 +114,11 @@ static const struct {
     {"conditional allows that are true", &conditions[ALLOW_TRUE], 170},
     {"conditional denies that are true", &conditions[DENY_TRUE], 160},
     {"conditional denies that are unknown", &conditions[DENY_UNKNOWN], 360},
+    {"texts of 64 tokens", &texts[TEXT_OF_64], 42},
+    {"texts nested 12 deep", &texts[TEXT_NESTED], 100},
+    {"texts of 512 bytes that are taken", &texts[TEXT_LONGEST], 82},
+    {"texts of over 512 bytes", &texts[TEXT_TOO_LONG], 580},
+    {"texts that stop too early", &texts[TEXT_CUT], 460},
 };
 
 enum { TOTALS = sizeof totals / sizeof *totals };

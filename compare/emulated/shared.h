@@ -16,6 +16,7 @@
 #define TAKES_pt_evaluate(AS) AS##_LENT(expression), AS##_LENT(table), AS##_ANSWER(answer)
 #define TAKES_pt_may_open_with(AS) \
     AS##_NUMBER(has_list), AS##_LENT(list), AS##_TYPE(type), AS##_LENT(held), AS##_NUMBER(wanted), AS##_LENT(table), AS##_ANSWER(answer)
+#define TAKES_pt_condition(AS) AS##_LENT(text), AS##_CHANGED(out), AS##_ANSWER(answer)
 #define TAKES_pt_compute(AS) \
     AS##_NUMBER(rule), AS##_NUMBER(settings), AS##_MAPPING(mapping), AS##_LENT(parent), AS##_LENT(creator), AS##_LENT(by_default), \
     AS##_LENT(types), AS##_LENT(owner), AS##_LENT(group), AS##_CHANGED(out), AS##_ANSWER(answer)
@@ -44,6 +45,7 @@
     SILENT(pt_may_open) \
     SILENT(pt_evaluate) \
     SILENT(pt_may_open_with) \
+    SILENT(pt_condition) \
     SILENT(pt_compute) \
     GIVING(size_t, pt_room) \
     SILENT(pt_start) \

@@ -5,6 +5,7 @@ pub mod condition;
 pub mod lending;
 pub mod script;
 pub mod tree;
+pub mod wording;
 
 use std::ffi::c_uint;
 use std::ptr;

@@ -387,3 +387,47 @@ pub static CONDITION: Floors = Floors {
         ("most tokens", 64),
     ],
 };
+
+#[rustfmt::skip]
+pub static WORDING: Floors = Floors {
+    cases: 100_000,
+    least_cases: 50_000,
+    answers: &[
+        ("condition", &[(0, 11_000), (8, 2600), (16, 9900), (17, 760)]),
+    ],
+    others: &[
+        ("16 before 8", 630),
+        ("16 behind what is 17 by itself", 17),
+        ("17 before 8", 45),
+        ("512 bytes", 300),
+        ("64 tokens", 160),
+        ("an offset within the text", 6800),
+        ("depth 16", 200),
+        ("means false", 8800),
+        ("means something without a name", 3600),
+        ("means true", 15_000),
+        ("means unknown", 10_000),
+        ("nested 12 deep", 130),
+        ("one byte too many", 170),
+        ("out is exact", 4600),
+        ("out too short", 2600),
+        ("over 64 tokens", 490),
+        ("over 64 tokens and depth 16", 18),
+        ("over depth 16", 230),
+        ("text: a 13th open parenthesis", 270),
+        ("text: a byte that can't stand there", 6700),
+        ("text: a digit past 64 bits", 810),
+        ("text: ends too early", 860),
+        ("text: over 512 bytes", 1200),
+        ("the table decides", 5700),
+    ],
+    greatest: &[
+        ("deepest nesting", 12),
+        ("greatest depth", 16),
+        ("latest offset", 512),
+        ("longest form", 1_000),
+        ("longest text", 512),
+        ("longest text that is refused", 69_000),
+        ("most tokens", 64),
+    ],
+};

@@ -15,13 +15,14 @@ mod report;
 mod script;
 mod tree;
 mod watched;
+mod wording;
 
 use std::process::ExitCode;
 
 use report::Report;
 
 const USAGE: &str =
-    "usage: compare list|compute|tree|deep|script|access|condition --cases N --seed S
+    "usage: compare list|compute|tree|deep|script|access|condition|wording --cases N --seed S
        compare program PATH --cases N --seed S
        compare repeat time|count library|second WHAT TIMES     (bench/rows.txt names what)";
 
@@ -108,6 +109,7 @@ fn layer_by_name(name: &str) -> Option<fn(usize, u64) -> Report> {
         "script" => Some(script::compare),
         "access" => Some(access::compare),
         "condition" => Some(condition::compare),
+        "wording" => Some(wording::compare),
         _ => None,
     }
 }

@@ -1,8 +1,8 @@
 //! The independent second program: reads and refuses access lists and
 //! identities, computes a new object's list, keeps a tree of objects with undo
-//! and plays scripts, by document 01; says who may open, walks a list and
-//! evaluates conditions, by document 02. It shares nothing with the verified
-//! code.
+//! and plays scripts, by document 01; says who may open, walks a list, evaluates
+//! conditions and takes them as text, by document 02. It shares nothing with the
+//! verified code.
 #![forbid(unsafe_code)]
 
 pub mod access;
@@ -23,3 +23,4 @@ pub mod room;
 pub mod script;
 pub mod tally;
 pub mod tree;
+pub mod wording;

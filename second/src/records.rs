@@ -8,6 +8,7 @@ mod playing;
 mod reader;
 #[cfg(test)]
 mod testing;
+mod wording;
 
 use crate::access::Question;
 use crate::computing::Request;
@@ -19,6 +20,7 @@ pub use computation::{LONGEST_OTHER, LONGEST_ROOM, fresh_room};
 pub use conditional::{LONGEST_EXPRESSION, LONGEST_TABLE};
 pub use opening::LONGEST_HELD;
 pub use playing::LONGEST_SCRIPT;
+pub use wording::{LONGEST_OUT as LONGEST_FORM, LONGEST_TEXT};
 
 const KIND_READ: u8 = 1;
 const KIND_IDENTITY: u8 = 2;
@@ -37,6 +39,7 @@ pub enum Case {
     Step { list: Vec<u8>, place: u32 },
     Evaluate { expression: Vec<u8>, table: Vec<u8> },
     MayOpenWith { question: Question, table: Vec<u8> },
+    Condition { text: Vec<u8>, out_length: u16 },
 }
 
 impl Case {
@@ -59,6 +62,9 @@ impl Case {
             }
             Case::MayOpenWith { question, table } => {
                 return conditional::encode(question, table, out);
+            }
+            Case::Condition { text, out_length } => {
+                return wording::encode(text, *out_length, out);
             }
         };
         out.extend_from_slice(&[kind, 0]);
@@ -104,6 +110,7 @@ fn decode(file: &[u8]) -> Result<(Case, &[u8]), &'static str> {
         Some(&opening::STEP) => return opening::decode_step(file),
         Some(&conditional::EVALUATE) => return conditional::decode_evaluate(file),
         Some(&conditional::MAY_OPEN_WITH) => return conditional::decode(file),
+        Some(&wording::KIND) => return wording::decode(file),
         _ => {}
     }
     let (head, rest) = file.split_first_chunk::<8>().ok_or("cut head")?;
@@ -162,6 +169,7 @@ fn answer_line(case: &Case, player: &mut Player) -> String {
         Case::Step { list, place } => opening::step_line(list, *place),
         Case::Evaluate { expression, table } => conditional::evaluate_line(expression, table),
         Case::MayOpenWith { question, table } => conditional::line(question, table),
+        Case::Condition { text, out_length } => wording::line(text, *out_length),
     }
 }
 

@@ -11,6 +11,7 @@ use crate::reading;
 use crate::records::{Case, fresh_room, fresh_row};
 use crate::script::{self, Ending};
 use crate::tree::{Call, Outcome, Part, Player};
+use crate::wording;
 
 #[derive(Default)]
 pub struct Tally {
@@ -126,6 +127,7 @@ fn label(case: &Case, player: &mut Player) -> String {
         }
         Case::Evaluate { expression, table } => evaluate_label(expression, table),
         Case::Step { list, place } => step_label(list, *place),
+        Case::Condition { text, out_length } => condition_label(text, *out_length),
     }
 }
 
@@ -184,6 +186,16 @@ fn evaluate_label(expression: &[u8], table: &[u8]) -> String {
         Err(refused) => {
             let number = refused.answer().number;
             format!("evaluate {number}  {}", refused.name())
+        }
+    }
+}
+
+fn condition_label(text: &[u8], out_length: u16) -> String {
+    match wording::try_condition(text, &mut vec![0; out_length.into()]) {
+        Ok(_) => "condition 0".to_string(),
+        Err(refused) => {
+            let fault = refused.fault;
+            format!("condition {}  {}", fault.number(), fault.name())
         }
     }
 }

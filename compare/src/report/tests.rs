@@ -1,7 +1,9 @@
 use super::*;
-use crate::floors::{ACCESS, COMPUTE, DEEP, LIST, PROGRAM, SCRIPT, TREE};
+use crate::floors::{ACCESS, COMPUTE, CONDITION, DEEP, LIST, PROGRAM, SCRIPT, TREE, WORDING};
 
-static ALL: [&Floors; 7] = [&LIST, &COMPUTE, &TREE, &DEEP, &SCRIPT, &PROGRAM, &ACCESS];
+static ALL: [&Floors; 9] = [
+    &LIST, &COMPUTE, &TREE, &DEEP, &SCRIPT, &PROGRAM, &ACCESS, &CONDITION, &WORDING,
+];
 
 fn of_cases(floors: &'static Floors, cases: usize) -> Report {
     let mut report = Report::new("tried", floors);
@@ -64,7 +66,9 @@ fn one_less_than_its_floor_fails() {
 /// But for trees that are built to their limits and refuse what others refuse.
 #[test]
 fn every_number_in_a_table_is_asked_for() {
-    for floors in [&LIST, &COMPUTE, &TREE, &SCRIPT, &PROGRAM, &ACCESS] {
+    for floors in [
+        &LIST, &COMPUTE, &TREE, &SCRIPT, &PROGRAM, &ACCESS, &CONDITION, &WORDING,
+    ] {
         assert_eq!(asked(floors).count(), floors.counts().count());
     }
 }

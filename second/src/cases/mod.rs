@@ -8,13 +8,15 @@ pub mod list;
 pub mod script;
 pub mod spoil;
 pub mod tree;
+pub mod wording;
 
 use std::collections::HashSet;
 
 use crate::examples::Example;
 use crate::records::Case;
 
-/// Every layer's cases, one layer after the other.
+/// Every layer's cases, one layer after the other; new layers come last, so
+/// that what is before them in the file stays.
 pub fn all(examples: &[Example]) -> Vec<Case> {
     [
         list::all(examples),
@@ -23,6 +25,7 @@ pub fn all(examples: &[Example]) -> Vec<Case> {
         script::all(),
         access::all(),
         condition::all(),
+        wording::all(),
     ]
     .concat()
 }
