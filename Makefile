@@ -57,7 +57,7 @@ examples: axs
 
 # play_file is handed the document's script, whose text is that of axs; where a script has the program's name, what it writes is in NAME.c.out
 c_examples: lib
-	@for program in read_list compute_list undo_tree play_script play_file who_may_open full_control conditional; do \
+	@for program in read_list compute_list undo_tree play_script play_file who_may_open full_control conditional condition_text; do \
 		$(CC) $(C99) examples/$$program.c -L. -lpipeteasel -o target/$$program || exit 1; \
 		expected=examples/$$program.out; [ $$program != play_file ] || expected=examples/document.out; \
 		[ ! -e examples/$$program.c.out ] || expected=examples/$$program.c.out; \
@@ -80,7 +80,7 @@ edits: second
 	tools/edits
 
 # made anew where something of the layers has changed
-LAYERS = octets condition list access inherit tree script capi
+LAYERS = octets condition wording list access inherit tree script capi
 lib: libpipeteasel.a
 libpipeteasel.a: crates.txt $(shell find $(LAYERS:%=crates/%) -type f)
 	rt staticlib capi

@@ -8,11 +8,11 @@
  * An answer is eight numbers:
  *   0  the number: 0 done, or why the call refused (PT_..., below)
  *   1  which list a refusal concerns: 1 parent, 2 creator, own or set list, 3 default; else 0
- *   2  the offset of a refusal's entry, else 0
+ *   2  the offset of a refusal's entry; of pt_condition's 16 the offset in the text; else 0
  *   3  done: the length; of pt_may_open and pt_may_open_with 1 for yes and 0 for no; of pt_evaluate 0 false, 1 true, 2 unknown;
  *      of pt_step where the entry begins, 0 where none is left
  *   4  done: 1 present, 0 absent; of pt_may_open, pt_may_open_with and pt_evaluate 0; of pt_step 1, or 0 where no entry is left
- *   5  done: the entry count; of pt_may_open, pt_may_open_with, pt_evaluate and pt_step 0
+ *   5  done: the entry count; of pt_condition the number of tokens; of pt_may_open, pt_may_open_with, pt_evaluate and pt_step 0
  *   6  done: the control bits
  *   7  done, of pt_read: where the entries end, 8 where there are none; else 0
  */
@@ -46,6 +46,8 @@ enum {
     PT_TREE = 13,    /* the room handed in isn't a well-formed tree */
     PT_GENERIC = 14, /* a generic bit (F0000000) is wanted */
     PT_EXPRESSION = 15, /* the expression of a conditional entry, or one handed to pt_evaluate, isn't acceptable */
+    PT_TEXT = 16,    /* a condition's text over 512 bytes, not in the grammar or nested too deep */
+    PT_LARGE = 17,   /* a condition's text that comes to over 64 tokens or depth 16 */
     PT_TABLE = 23    /* a table that isn't made as pt_evaluate says */
 };
 
@@ -129,6 +131,19 @@ void pt_evaluate(const uint8_t *expression, size_t expression_len, const uint8_t
 void pt_may_open_with(uint32_t has_list, const uint8_t *list, size_t list_len, const uint8_t type[16],
                       const uint8_t *held, size_t held_len, uint32_t wanted, const uint8_t *table, size_t table_len,
                       uint32_t answer[8]);
+
+/* The stored form of a condition typed as text, as `level>=3&&!(dept==2||dept==7)`, onto the front of out; bytes past it stay as
+ * they were. A condition is terms joined by ||, a term is factors joined by &&; && comes before ||, and both group to the left. A
+ * factor is ! before a factor, a whole condition in parentheses, or two operands with ==, !=, <, <=, > or >= between them. An
+ * operand is a name (ASCII letters and digits, a letter first) or a decimal integer of signed 64 bits (a - may stand before it, a +
+ * may not; leading zeros are fine). Nothing else may stand there, no blank either. Names come out with 16-bit units, numbers with
+ * sign byte 3 and base byte 2, all in text order, without padding: an entry wants zeros behind it up to a multiple of four.
+ * For every text that is done and every table, pt_evaluate of the stored form gives what the text means.
+ * Done: place 3 is the stored form's length, place 4 is 1, place 5 the number of tokens. Tests in order: 16 with the offset in the
+ * text: 512 where it is over 512 bytes, else the first byte after which no continuation is left, or the end of a text that stops too
+ * early (a 13th open parenthesis and a digit that leaves the 64 bits count here); 17, over 64 tokens or more than 16 operands and
+ * conditions waiting at once; 8, out shorter than the stored form. 1,255 bytes suffice for every text. */
+void pt_condition(const uint8_t *text, size_t text_len, uint8_t *out, size_t out_len, uint32_t answer[8]);
 
 /* Computes the list of a new object by MS-DTYP under rule 1 (the printed text) or 2 (what the library runs), onto the front of out;
  * bytes past the result stay as they were. mapping: read, write, execute, all, each joined to an entry's mask where that has

@@ -12,6 +12,8 @@ use Rattle.condition.specs.declared.truths.Truth.{Truth}
 use Rattle.condition.specs.declared.truths.Truth.the-variants.{False, True, Unknown}
 use Rattle.condition.specs.declared.Evaluated.{Evaluated}
 use Rattle.condition.specs.declared.Evaluated.the-variants.{Done as Said, Refused as Unsaid}
+use Rattle.wording.specs.declared.Translated.{Translated}
+use Rattle.wording.specs.declared.Translated.the-variants.{Done as Stored, Refused as Unstored}
 use Rattle.inherit.specs.Asked.{Asked}
 use Rattle.inherit.specs.Compute.{computeOf, outOf}
 use Rattle.inherit.specs.declared.Settings.{Settings}
@@ -36,6 +38,11 @@ truthNumber Unknown = 2
 abbrev pub evaluatedValues : Evaluated → Values
 evaluatedValues (Said v) = done (truthNumber v) 0 0 0
 evaluatedValues (Unsaid k) = refused k 0 0
+
+-- and of each case of a translation's: done, with the stored form's length, and its tokens in the place of the count; a refusal's offset is in the text
+abbrev pub translatedValues : Translated → Values
+translatedValues (Stored n k) = done n 1 k 0
+translatedValues (Unstored k at) = refused k 0 at
 
 -- the settings of a computation: 1 parent present, 2 creator present, 4 default present, 8 container, 16 auto inherit, 32 default descriptor, 64 protected
 abbrev pub settingsOf : ℕ → Settings

@@ -4,6 +4,7 @@ ghost use mathlib.Core.List.{[]};
 ghost use lib.ListN.{length};
 ghost use Rattle.octets.specs.Bytes.{has as Given·has};
 ghost use Rattle.condition.specs.Meaning.{evaluateOf};
+ghost use Rattle.wording.specs.Translation.{translationOf, outAfter};
 ghost use Rattle.list.specs.Identity.{identityOf};
 ghost use Rattle.list.specs.Entry.{access};
 ghost use Rattle.list.specs.List.{readOf, rowBy, lent};
@@ -15,7 +16,7 @@ ghost use Rattle.tree.specs.Held.{yes};
 ghost use Rattle.tree.specs.Room.{roomOf};
 ghost use Rattle.tree.specs.Calls.{list as Edit·list, mark as Edit·mark, owners as Edit·owners, answerValues as Calls·valuesOf, objectFor, startTo, addTo, alterTo, undoTo, listTo, ownTo, dataTo, countsTo};
 ghost use Rattle.script.specs.Play.{playTo};
-ghost use Rattle.capi.specs.Places.{placesOf, truthNumber, evaluatedValues, settingsOf, mappingFrom, yesOf, newOf, Computes, foundPlaces, entryPlaces, Told32};
+ghost use Rattle.capi.specs.Places.{placesOf, truthNumber, evaluatedValues, translatedValues, settingsOf, mappingFrom, yesOf, newOf, Computes, foundPlaces, entryPlaces, Told32};
 use access::Access;
 use access::Found;
 use access::Pointed;
@@ -26,6 +27,7 @@ use inherit::Mapping;
 use inherit::Settings;
 use list::Reading;
 use tree::Answer;
+use wording::Translated;
 
 // The values of an answer, each in its place (RULES 8.1).
 fn put_values(
@@ -225,6 +227,28 @@ pub extern "C" fn pt_evaluate(expression: &[u8], table: &[u8], answer: &mut [u32
     match condition::evaluate(expression, table) {
         Evaluated::Done(truth) => put_values(answer, 0, 0, 0, truth_number(truth), 0, 0, 0, 0),
         Evaluated::Refused(number) => put_refused(answer, number, 0),
+    }
+}
+
+// The stored form of a condition typed as text, on the front of `out`.
+#[no_mangle]
+pub extern "C" fn pt_condition(text: &[u8], out: &mut [u8], answer: &mut [u32; 8])
+    ensures { λ _. ⌜ now (answer .exit) ≡ placesOf (translatedValues (translationOf (now (text .entry)) (length (now (out .entry))))) ⌝ }
+    ensures out { λ _. ⌜ now (out .exit) ≡ outAfter (now (text .entry)) (now (out .entry)) ⌝ }
+{
+    match wording::translate(text, out) {
+        Translated::Done(long, tokens) => put_values(
+            answer,
+            0,
+            0,
+            0,
+            long as u32,
+            1,
+            tokens as u32,
+            0,
+            0,
+        ),
+        Translated::Refused(number, at) => put_refused(answer, number, at as u16),
     }
 }
 

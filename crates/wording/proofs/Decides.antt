@@ -28,7 +28,8 @@ use Rattle.wording.proofs.Whole.{ok-read}
 use Rattle.wording.proofs.Reading.{sound}
 use Rattle.wording.proofs.Flat.{tokens-flat}
 use Rattle.wording.proofs.Deep.{highest, highest-is}
-use Rattle.wording.proofs.Sizes.{tokens-exact, size-exact, highest-exact, put-exact, small-C}
+use Rattle.wording.proofs.Sizes.{tokens-exact, size-exact, highest-exact, put-exact}
+use Rattle.wording.proofs.Small.{small-C}
 
 -- ---- what is decided, test by test
 

@@ -11,6 +11,7 @@ use Rattle.wording.specs.Grammar.{val, limit, Operand, name, integer, Co
 use Rattle.wording.specs.Grammar.{textO, textR, textC, textT, textF, ValidO, ValidC, ValidT, ValidF}
 use Rattle.wording.specs.Stored.{wide, numberOf, integerOf, wordOf, laid, tokensOf}
 use Rattle.wording.specs.Inner.Tokens.{tokensC, tokensOr, tokensT, tokensAnd, tokensF}
+use Rattle.wording.proofs.Longs.{length-wide}
 use Rattle.wording.proofs.Flat.{tokens-flat}
 use Rattle.wording.proofs.Back.{Kept, AllKept}
 
@@ -31,14 +32,9 @@ unfolding wordOf
 word-small (pos n) h = omega arith
 word-small (negsuc n) h = omega arith
 
-wide-length : (n : List ℕ) → length (wide n) ≡ 2 * length n
-unfolding wide
-wide-length [] = refl
-wide-length (b ∷ n) = let h = wide-length n in omega arith
-
 pub operand-kept : (a : Operand) → ValidO a → length (textO a) ≤ 512 → Kept (push (laid a))
 unfolding ValidO laid textO Kept
-operand-kept (name b n) v h = let e = wide-length (b ∷ n) in (omega arith, omega arith, omega arith)
+operand-kept (name b n) v h = let e = length-wide (b ∷ n) in (omega arith, omega arith, omega arith)
 operand-kept (integer neg b n) v h = word-small (integerOf neg b n) (number-fits neg (val (b - 48) n) (v .2))
 
 -- ---- trees

@@ -17,6 +17,7 @@ use Rattle.condition.specs.Token.{number, name as named, push}
 use Rattle.wording.specs.declared.tallies.Tally.{Tally}
 use Rattle.wording.specs.Stored.{wide, numberOf, wordOf, bytesOf}
 use Rattle.wording.specs.Inner.Walk.{putB}
+use Rattle.wording.proofs.Longs.{length-wide, name-long}
 
 -- ---- where the tally ends
 
@@ -48,27 +49,12 @@ minus (suc v) f = let e : suc v - 1 ≡ v = omega arith in ap (λ (n : ℕ). 0xF
 pub word-minus : (neg : Bool) (v : ℕ) → neg ≡ true → (v ≡ 0 → ⊥) → 0xFFFFFFFFFFFFFFFF - (v - 1) ≡ wordOf (numberOf neg v)
 word-minus neg v e f = rw e (minus v f)
 
-pub number-long : (m : ℕ) → length (bytesOf (push (number m))) ≡ 11
-unfolding bytesOf spell
-number-long m = refl
-
 -- ---- a name's bytes
-
-pub length-wide : (s : List ℕ) → length (wide s) ≡ 2 * length s
-unfolding wide
-length-wide [] = refl
-length-wide (b ∷ s) = let e = length-wide s in omega arith
 
 wide-append : (s t : List ℕ) → wide (s ++ t) ≡ wide s ++ wide t
 unfolding wide
 wide-append [] t = refl
 wide-append (b ∷ s) t = ap (λ (l : List ℕ). b ∷ 0 ∷ l) (wide-append s t)
-
-pub name-long : (s : List ℕ) → length (bytesOf (push (named (wide s)))) ≡ 5 + 2 * length s
-unfolding bytesOf
-name-long s =
-    let e : length (spell 4 (length (wide s))) ≡ 4 = length-spell 4 (length (wide s)) in
-    simp length-append (omega (arith, e, length-wide s))
 
 -- the length of a name that short has two zeros above
 low-bytes : (m : ℕ) → m ≤ 1024 → (m / 256 ≡ m / 256 % 256) × (0 ≡ m / 256 / 256 % 256) × (0 ≡ m / 256 / 256 / 256 % 256)

@@ -4,6 +4,7 @@ pub mod Whole
 pub mod Complete
 pub mod Ending
 pub mod Reading
+pub mod Longs
 pub mod Flat
 pub mod Deep
 pub mod Back
@@ -18,7 +19,10 @@ pub mod Leaf
 pub mod Taken
 pub mod Compare
 pub mod Cycle
+pub mod Small
 pub mod Sizes
 pub mod Decides
+pub mod Told
 pub mod Theorems
 pub mod Examples
+pub mod Determined

@@ -9,6 +9,7 @@ use Rattle.condition.specs.Token.{Operand as Laid, number, Token, push, compare
 use Rattle.wording.specs.Grammar.{Operand, Condition, last, or, Term, only, and, Factor, not, paren, compare}
 use Rattle.wording.specs.Stored.{laid, tokensOf, bytesOf, bytesAll, storedOf}
 use Rattle.wording.specs.Inner.Tokens.{tokensC, tokensOr, tokensT, tokensAnd, tokensF}
+use Rattle.wording.proofs.Longs.{bytes-append}
 use Rattle.wording.proofs.Flat.{tokens-flat}
 
 -- ---- the order
@@ -85,11 +86,6 @@ pub text-order : (c : Condition) → pushed (tokensOf c) ≡ map laid (operandsC
 text-order c = ap pushed (sym (tokens-flat c)) ∙ order-C c
 
 -- ---- the literals' bytes
-
-pub bytes-append : (p q : List Token) → bytesAll (p ++ q) ≡ bytesAll p ++ bytesAll q
-unfolding bytesAll
-bytes-append [] q = refl
-bytes-append (t ∷ p) q = rw (bytes-append p q) (sym (append-assoc (bytesOf t) (bytesAll p) (bytesAll q)))
 
 -- what is stored behind the first tokens
 pub stored-from : (c : Condition) (p q : List Token) → tokensOf c ≡ p ++ q → drop (4 + length (bytesAll p)) (storedOf c) ≡ bytesAll q

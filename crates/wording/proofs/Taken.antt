@@ -21,7 +21,7 @@ use Rattle.wording.proofs.Keeps.{Read, OkOf}
 use Rattle.wording.proofs.Parts.{ok-operand}
 use Rattle.wording.proofs.Ending.{Settled, operand-settled}
 use Rattle.wording.proofs.Places.{back}
-use Rattle.wording.proofs.Laid.{number-long, name-long}
+use Rattle.wording.proofs.Longs.{number-long, name-long}
 
 -- what a reader leaves is the text from some place on
 pub suffix-of : {A : Type 0} (spell : A → List ℕ) (Valid : A → Type 0) (p : List ℕ → Res A) (s : List ℕ) (at : ℕ) (t : A) (l : List ℕ) → at ≤ length s

@@ -4,7 +4,8 @@ use native.Mathlib.Omega.{arith}
 use denote.Ref.{now}
 use Rattle.condition.specs.Token.{name as named, push}
 use Rattle.wording.specs.Stored.{wide, bytesOf}
-use Rattle.wording.proofs.Laid.{name-long, no-room, fits}
+use Rattle.wording.proofs.Longs.{name-long}
+use Rattle.wording.proofs.Laid.{no-room, fits}
 use Rattle.wording.proofs.tokens.emit_name.Statement.{statement}
 use Rattle.wording.proofs.tokens.emit_name.Tie as tie
 
