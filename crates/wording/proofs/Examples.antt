@@ -134,12 +134,16 @@ pub reads-typed : reading typed ≡ accepted typed-tree
 unfolding typed typed-tree reading read readComparison readSign readOperand readNumber readDigits readRest digit letter alnum
 reads-typed = refl
 
--- three in a row group to the left: the first two are joined first
-pub groups-left : map storedBy (reading (ascii "a==b&&a==c&&a==d") ∷ [])
-    ≡ (0x61 ∷ 0x72 ∷ 0x74 ∷ 0x78
+-- the stored form of a row of three: a == b, a == c and a == d, with that operator behind the second one and behind the third
+abbrev three : ℕ → List ℕ
+three joins =
+    0x61 ∷ 0x72 ∷ 0x74 ∷ 0x78
     ∷ 0xF8 ∷ 2 ∷ 0 ∷ 0 ∷ 0 ∷ 97 ∷ 0 ∷ 0xF8 ∷ 2 ∷ 0 ∷ 0 ∷ 0 ∷ 98 ∷ 0 ∷ 0x80
-    ∷ 0xF8 ∷ 2 ∷ 0 ∷ 0 ∷ 0 ∷ 97 ∷ 0 ∷ 0xF8 ∷ 2 ∷ 0 ∷ 0 ∷ 0 ∷ 99 ∷ 0 ∷ 0x80 ∷ 0xA0
-    ∷ 0xF8 ∷ 2 ∷ 0 ∷ 0 ∷ 0 ∷ 97 ∷ 0 ∷ 0xF8 ∷ 2 ∷ 0 ∷ 0 ∷ 0 ∷ 100 ∷ 0 ∷ 0x80 ∷ 0xA0 ∷ []) ∷ []
+    ∷ 0xF8 ∷ 2 ∷ 0 ∷ 0 ∷ 0 ∷ 97 ∷ 0 ∷ 0xF8 ∷ 2 ∷ 0 ∷ 0 ∷ 0 ∷ 99 ∷ 0 ∷ 0x80 ∷ joins
+    ∷ 0xF8 ∷ 2 ∷ 0 ∷ 0 ∷ 0 ∷ 97 ∷ 0 ∷ 0xF8 ∷ 2 ∷ 0 ∷ 0 ∷ 0 ∷ 100 ∷ 0 ∷ 0x80 ∷ joins ∷ []
+
+-- both rows group to the left
+pub groups-left : map storedBy (reading (ascii "a==b&&a==c&&a==d") ∷ reading (ascii "a==b||a==c||a==d") ∷ []) ≡ three 0xA0 ∷ three 0xA1 ∷ []
 unfolding storedBy reading read readComparison readSign readOperand readNumber readDigits readRest digit letter alnum formulaC spelt laid wide storedOf bytesAll bytesOf codeOf spell
 groups-left = refl
 

@@ -23,6 +23,11 @@ pub enum Walked {
     Bad(usize),
 }
 
+// What joins the parts of a row, twice in the text, and the token of each.
+const AND_SIGN: u8 = b'&';
+
+const OR_SIGN: u8 = b'|';
+
 const AND: u8 = 0xA0;
 
 const OR: u8 = 0xA1;
@@ -90,10 +95,10 @@ pub(crate) fn read_condition(
         return t;
     };
     let w2 = join(out, w1, joined, OR);
-    if !byte_is(s, p, b'|') {
+    if !byte_is(s, p, OR_SIGN) {
         return Walked::At(p, w2);
     }
-    if !byte_is(s, p + 1, b'|') {
+    if !byte_is(s, p + 1, OR_SIGN) {
         return Walked::Bad(p + 1);
     }
     read_condition(s, p + 2, depth, true, w2, out)
@@ -109,10 +114,10 @@ fn read_term(s: &[u8], at: usize, depth: usize, joined: bool, w: Tally, out: &mu
         return t;
     };
     let w2 = join(out, w1, joined, AND);
-    if !byte_is(s, p, b'&') {
+    if !byte_is(s, p, AND_SIGN) {
         return Walked::At(p, w2);
     }
-    if !byte_is(s, p + 1, b'&') {
+    if !byte_is(s, p + 1, AND_SIGN) {
         return Walked::Bad(p + 1);
     }
     read_term(s, p + 2, depth, true, w2, out)
