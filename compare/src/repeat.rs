@@ -7,6 +7,7 @@ mod conditions;
 mod lists;
 mod playing;
 mod reading;
+mod texts;
 mod tree;
 
 use std::thread::yield_now;
@@ -43,7 +44,9 @@ pub trait Repeated {
 fn at_a_time(what: &str) -> usize {
     match what.split_once('_') {
         Some(("read" | "compute" | "search", of)) if of.ends_with("3000") => 10,
-        Some(("read" | "compute" | "search" | "may" | "step" | "evaluate", _)) => 1_000,
+        Some(("read" | "compute" | "search" | "may" | "step" | "evaluate" | "condition", _)) => {
+            1_000
+        }
         _ => 1,
     }
 }
@@ -107,6 +110,7 @@ fn measured_calls(repeated: &mut dyn Repeated, calls: usize) {
 /// On `read_N`, `read_spare_N`, `read_condition_64`, `compute_N`,
 /// `compute_spare_N`, `set_list_N`, `undo_N`, `full_tree`, `play_N`,
 /// `may_open_16`, `may_open_100`, `may_open_with_16`, `step_N`, `evaluate_64`,
+/// `condition_12`, `condition_64`,
 /// and `compute_WHICH_N` and `search_WHICH_N`, where WHICH is `first`, `last`
 /// or `none`, and says which of the parent's entries is inheritable.
 fn repeated(side: Side, what: &str) -> Option<Box<dyn Repeated>> {
@@ -138,6 +142,7 @@ fn repeated(side: Side, what: &str) -> Option<Box<dyn Repeated>> {
             1,
         )),
         "evaluate" if number == TOKENS => Box::new(conditions::Evaluating::of_64_tokens(side)),
+        "condition" => Box::new(texts::Translating::of_tokens(side, number)?),
         "may_open_with" => Box::new(conditions::Opening::of_entries(
             side,
             number,

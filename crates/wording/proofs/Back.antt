@@ -12,7 +12,7 @@ use Rattle.octets.proofs.Little.{le-append, le-spell, length-spell}
 use Rattle.octets.proofs.Tests.{tests}
 use Rattle.condition.specs.Token.{equal, unequal, below, atMost, above, atLeast, number, name, Token, push, compares, exists, ands, ors, nots}
 use Rattle.condition.specs.Token.{nameOk, oneToThree, literalAt, nameAt, comparisonOf, operatorOf, tokenAt, long, longAll, over, tokensIn}
-use Rattle.wording.specs.Stored.{codeOf, bytesOf, bytesAll}
+use Rattle.wording.specs.Stored.{codeOf, tokenBytes, bytesAll}
 
 -- a token that its bytes hold: a number of 64 bits; a name of even length, not 0, in 32 bits
 unfoldable pub Kept : Token → Type 0
@@ -31,8 +31,8 @@ AllKept (t ∷ l) = Kept t × AllKept l
 -- ---- one token
 
 -- so many bytes spell it
-pub long-is : (t : Token) → long t ≡ length (bytesOf t)
-unfolding long bytesOf
+pub long-is : (t : Token) → long t ≡ length (tokenBytes t)
+unfolding long tokenBytes
 long-is (push (number w)) = sym (ap suc (length-append (spell 8 w) (3 ∷ 2 ∷ []) ∙ omega (arith, length-spell 8 w)))
 long-is (push (name n)) = sym (ap suc (length-append (spell 4 (length n)) n) ∙ omega (arith, length-spell 4 (length n)))
 long-is (compares r) = refl
@@ -68,8 +68,8 @@ name-back n r h =
     (rw a (omega arith))
     (ap (λ (q : List ℕ). take (length n) (drop 4 q)) a ∙ ap (take (length n)) (drop-at p (n ++ r) 4 l) ∙ take-append-seam n r)
 
-pub token-back : (t : Token) (r : List ℕ) → Kept t → tokenAt (bytesOf t ++ r) ≡ some t
-unfolding tokenAt bytesOf operatorOf comparisonOf codeOf Kept
+pub token-back : (t : Token) (r : List ℕ) → Kept t → tokenAt (tokenBytes t ++ r) ≡ some t
+unfolding tokenAt tokenBytes operatorOf comparisonOf codeOf Kept
 token-back (push (number w)) r h = number-back w r h
 token-back (push (name n)) r h = name-back n r h
 token-back (compares equal) r h = refl
@@ -84,8 +84,8 @@ token-back ors r h = refl
 token-back nots r h = refl
 
 -- no token begins with a byte 0
-begins : (t : Token) (r : List ℕ) → over (bytesOf t ++ r) ≡ false
-unfolding over bytesOf codeOf
+begins : (t : Token) (r : List ℕ) → over (tokenBytes t ++ r) ≡ false
+unfolding over tokenBytes codeOf
 begins (push (number w)) r = refl
 begins (push (name n)) r = refl
 begins (compares equal) r = refl
@@ -102,9 +102,9 @@ begins nots r = refl
 -- ---- all of them
 
 -- the first token, then those behind it
-first-back : (n : ℕ) (t : Token) (r : List ℕ) → Kept t → tokensIn (suc n) (bytesOf t ++ r) ≡ Option·map (λ ts. t ∷ ts) (tokensIn n r)
+first-back : (n : ℕ) (t : Token) (r : List ℕ) → Kept t → tokensIn (suc n) (tokenBytes t ++ r) ≡ Option·map (λ ts. t ∷ ts) (tokensIn n r)
 unfolding tokensIn bind
-first-back n t r k = rw (begins t r, token-back t r k, drop-at (bytesOf t) r (long t) (sym (long-is t)))
+first-back n t r k = rw (begins t r, token-back t r k, drop-at (tokenBytes t) r (long t) (sym (long-is t)))
 
 pub tokens-back : (l : List Token) (n : ℕ) → length l ≤ n → AllKept l → tokensIn n (bytesAll l) ≡ some l
 unfolding bytesAll AllKept tokensIn over

@@ -20,7 +20,7 @@ use Rattle.wording.specs.declared.Translated.the-variants.{Done, Refused
 use Rattle.wording.specs.Grammar.{Condition, textC, InGrammar}
 use Rattle.wording.specs.Reader.{Res, good, bad, out, condition, read, Reading, accepted, refused, endOf, bound, reading}
 use Rattle.wording.specs.Stored.{formulaC, tokensOf, deep, bytesAll, storedOf}
-use Rattle.wording.specs.Translation.{storing, answerTo, translationOf, storedBy, laidOn, outAfter}
+use Rattle.wording.specs.Translation.{storing, answerBy, translationOf, storedBy, laidOn, outAfter}
 use Rattle.wording.specs.Inner.Tokens.{tokensC}
 use Rattle.wording.specs.Inner.Walk.{noteAll, putAll, tally0, Outcome, stepsAt, ParsedAt, decideAt, decideOf, headed, Wrote}
 use Rattle.wording.proofs.Keeps.{OkOf}
@@ -99,8 +99,8 @@ module _ (s : List ℕ) (short : length s ≤ 512) (room : ℕ) where
 
   -- as the reader decides
   decided-of : (f : ℕ) (x : Res Condition) → OkOf textC InGrammar [] (read f condition 12) s x → (a : Walked) (o q : List ℕ) → Outcome tokensC s tally0 o x a q
-      → decideOf a (length s) room ≡ answerTo room (endOf (length s) x)
-  unfolding answerTo need
+      → decideOf a (length s) room ≡ answerBy room (endOf (length s) x)
+  unfolding answerBy need
   decided-of f (good c []) k a o q g = whole-is c a (k .text ∙ (append-nil (k .part) ∙ k .spelt)) (g .0)
   decided-of f (good c (b ∷ l)) k a o q g =
       let m = ap length (k .text) ∙ length-append (k .part) (b ∷ l) in
@@ -169,14 +169,14 @@ pub record DoneBy (s : List ℕ) (room n k : ℕ) : Type 0 where
   pub fit : Fits tree room n k
 
 pub done-by : (s : List ℕ) (room n k : ℕ) → Done n k ≡ translationOf s room → DoneBy s room n k
-unfolding translationOf need answerTo
+unfolding translationOf need answerBy
 done-by s room n k e = by (leb (length s) 512) refl e
   where
-    on : (x : Reading) → reading s ≡ x → length s ≤ 512 → Done n k ≡ answerTo room x → DoneBy s room n k
+    on : (x : Reading) → reading s ≡ x → length s ≤ 512 → Done n k ≡ answerBy room x → DoneBy s room n k
     on (accepted c) r h g = record { tree = c; reads = r; short = h; fit = fits room c n k g }
     on (refused m) r h g = let v : _≡_ {A = ℕ} 0 1 = cc in absurd (omega arith)
 
-    by : (x : Bool) → leb (length s) 512 ≡ x → Done n k ≡ need x (Refused 16 512) (answerTo room (reading s)) → DoneBy s room n k
+    by : (x : Bool) → leb (length s) 512 ≡ x → Done n k ≡ need x (Refused 16 512) (answerBy room (reading s)) → DoneBy s room n k
     by true h g = on (reading s) refl (leb-true (length s) 512 h) g
     by false h g = let v : _≡_ {A = ℕ} 0 1 = cc in absurd (omega arith)
 

@@ -9,18 +9,18 @@ use borrow.Author.Tests.{lt-ltb, le-ltb, le-leb, lt-leb}
 use Rattle.octets.proofs.Places.{put-one}
 use Rattle.condition.specs.Token.{Token}
 use Rattle.wording.specs.Inner.Walk.{Joined, noteAll, noteB, putAll, putB, takes, upBy}
-use Rattle.wording.specs.Stored.{bytesOf}
+use Rattle.wording.specs.Stored.{tokenBytes}
 use Rattle.wording.specs.declared.tallies.Tally.{Tally}
 
 pub note-append : (a b : List Token) (w : Tally) → noteAll (a ++ b) w ≡ noteAll b (noteAll a w)
 unfolding noteAll
 note-append [] b w = refl
-note-append (t ∷ a) b w = note-append a b (noteB (length (bytesOf t)) (takes t) w)
+note-append (t ∷ a) b w = note-append a b (noteB (length (tokenBytes t)) (takes t) w)
 
 pub put-append : (a b : List Token) (w : Tally) (o : List ℕ) → putAll (a ++ b) w o ≡ putAll b (noteAll a w) (putAll a w o)
 unfolding noteAll putAll
 put-append [] b w o = refl
-put-append (t ∷ a) b w o = put-append a b (noteB (length (bytesOf t)) (takes t) w) (putB (bytesOf t) w o)
+put-append (t ∷ a) b w o = put-append a b (noteB (length (tokenBytes t)) (takes t) w) (putB (tokenBytes t) w o)
 
 -- ---- laws of the small writers
 pub up-yes : (a k : ℕ) → a < 100000 → a + k ≡ upBy a k

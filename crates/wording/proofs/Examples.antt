@@ -18,9 +18,9 @@ use Rattle.wording.specs.declared.Translated.{Translated}
 use Rattle.wording.specs.declared.Translated.the-variants.{Done, Refused}
 use Rattle.wording.specs.Grammar.{Condition, last, or, only, and, not, paren, compare, name, integer, ascii, digit, letter, alnum, val}
 use Rattle.wording.specs.Reader.{Reading, accepted, refused, readRest, readDigits, readNumber, readOperand, readSign, readComparison, read, reading}
-use Rattle.wording.specs.Stored.{wide, wordOf, laid, formulaC, deep, codeOf, bytesOf, bytesAll, storedOf}
-use Rattle.wording.specs.Meaning.{valueO, compared, meansC}
-use Rattle.wording.specs.Translation.{storing, answerTo, translationOf, storedBy, laidOn, outAfter}
+use Rattle.wording.specs.Stored.{wide, wordFor, operandOf, formulaC, deep, codeOf, tokenBytes, bytesAll, storedOf}
+use Rattle.wording.specs.Meaning.{valueS, compared, meansC}
+use Rattle.wording.specs.Translation.{storing, answerBy, translationOf, storedBy, laidOn, outAfter}
 
 -- a text many times over
 times : ℕ → String → List ℕ
@@ -114,7 +114,7 @@ answers =
     ∷ []
 
 pub answers-hold : map (λ (e : Answered). translationOf (e .text) (e .room)) answers ≡ map (λ (e : Answered). e .answer) answers
-unfolding answers is not-at times translationOf answerTo storing need reading read readComparison readSign readOperand readNumber readDigits readRest digit letter alnum formulaC deep spelt laid wide storedOf bytesAll bytesOf spell
+unfolding answers is not-at times translationOf answerBy storing need reading read readComparison readSign readOperand readNumber readDigits readRest digit letter alnum formulaC deep spelt operandOf wide storedOf bytesAll tokenBytes spell
 answers-hold = refl
 
 -- ---- the tree
@@ -144,19 +144,19 @@ three joins =
 
 -- both rows group to the left
 pub groups-left : map storedBy (reading (ascii "a==b&&a==c&&a==d") ∷ reading (ascii "a==b||a==c||a==d") ∷ []) ≡ three 0xA0 ∷ three 0xA1 ∷ []
-unfolding storedBy reading read readComparison readSign readOperand readNumber readDigits readRest digit letter alnum formulaC spelt laid wide storedOf bytesAll bytesOf codeOf spell
+unfolding storedBy reading read readComparison readSign readOperand readNumber readDigits readRest digit letter alnum formulaC spelt operandOf wide storedOf bytesAll tokenBytes codeOf spell
 groups-left = refl
 
 -- ---- the stored form, on the front of what was lent
 
 pub stored-typed : outAfter (ascii "a<-2") (9 ∷ 9 ∷ 9 ∷ 9 ∷ 9 ∷ 9 ∷ 9 ∷ 9 ∷ 9 ∷ 9 ∷ 9 ∷ 9 ∷ 9 ∷ 9 ∷ 9 ∷ 9 ∷ 9 ∷ 9 ∷ 9 ∷ 9 ∷ 9 ∷ 9 ∷ 9 ∷ 8 ∷ 7 ∷ [])
     ≡ 0x61 ∷ 0x72 ∷ 0x74 ∷ 0x78 ∷ 0xF8 ∷ 2 ∷ 0 ∷ 0 ∷ 0 ∷ 97 ∷ 0 ∷ 0x04 ∷ 0xFE ∷ 0xFF ∷ 0xFF ∷ 0xFF ∷ 0xFF ∷ 0xFF ∷ 0xFF ∷ 0xFF ∷ 3 ∷ 2 ∷ 0x82 ∷ 8 ∷ 7 ∷ []
-unfolding outAfter laidOn storedBy translationOf answerTo storing need reading read readComparison readSign readOperand readNumber readDigits readRest digit letter alnum formulaC deep spelt laid wide wordOf val storedOf bytesAll bytesOf codeOf spell
+unfolding outAfter laidOn storedBy translationOf answerBy storing need reading read readComparison readSign readOperand readNumber readDigits readRest digit letter alnum formulaC deep spelt operandOf wide wordFor val storedOf bytesAll tokenBytes codeOf spell
 stored-typed = refl
 
 -- a refusal leaves it
 pub refused-leaves : outAfter (ascii "a<-") (9 ∷ 8 ∷ 7 ∷ []) ≡ 9 ∷ 8 ∷ 7 ∷ []
-unfolding outAfter laidOn translationOf answerTo need reading read readComparison readSign readOperand readNumber readDigits readRest digit letter alnum
+unfolding outAfter laidOn translationOf answerBy need reading read readComparison readSign readOperand readNumber readDigits readRest digit letter alnum
 refused-leaves = refl
 
 -- ---- the meaning
@@ -200,5 +200,5 @@ meant =
     ∷ []
 
 pub meant-holds : map (λ (e : Meant). truthIn (e .table) (reading (ascii (e .text)))) meant ≡ map (λ (e : Meant). e .truth) meant
-unfolding meant has truthIn reading read readComparison readSign readOperand readNumber readDigits readRest digit letter alnum meansC valueO compared wide val valueIn sameBytes signed compareOf andOf orOf notOf
+unfolding meant has truthIn reading read readComparison readSign readOperand readNumber readDigits readRest digit letter alnum meansC valueS compared wide val valueIn sameBytes signed compareOf andOf orOf notOf
 meant-holds = refl

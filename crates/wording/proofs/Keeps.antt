@@ -6,7 +6,7 @@ use Prim.Native.Nat.{ℕ}
 use lib.Dec.{eqb}
 use borrow.Author.Tests.{eqb-true}
 use Rattle.wording.specs.Grammar.{Goes}
-use Rattle.wording.specs.Reader.{Res, after, andThen, bad, bind, branch, done, good, head0, is, one, out, pick, stop}
+use Rattle.wording.specs.Reader.{Res, expect, andThen, bad, onward, choose, give, good, head0, is, one, out, pick, stop}
 
 pub head-same : (v a b : List ℕ) → head0 a ≡ head0 b → head0 (v ++ a) ≡ head0 (v ++ b)
 head-same [] a b h = h
@@ -34,7 +34,7 @@ abbrev pub Ok : {A : Type 0} (spell : A → List ℕ) (Valid : A → Type 0) (pr
 Ok spell Valid pre p s = OkOf spell Valid pre p s (p s)
 
 module _ {A : Type 0} (spell : A → List ℕ) (Valid : A → Type 0) (pre : List ℕ) where
-  pub ok-done : (b : A) (s : List ℕ) → pre ≡ spell b → Valid b → Ok spell Valid pre (done b) s
+  pub ok-done : (b : A) (s : List ℕ) → pre ≡ spell b → Valid b → Ok spell Valid pre (give b) s
   ok-done b s e v = record { part = []; text = refl; spelt = append-nil pre ∙ e; valid = v; local = λ l h. refl }
 
   pub ok-stop : (s : List ℕ) → Goes spell Valid pre → Ok spell Valid pre stop s
@@ -67,15 +67,15 @@ module _ {A : Type 0} (spell : A → List ℕ) (Valid : A → Type 0) (pre : Lis
   ok-pick t p q s g h = by (t (head0 s)) refl
     where
       by : (b : Bool) → t (head0 s) ≡ b → Ok spell Valid pre (pick t p q) s
-      by true e = ok-as p (pick t p q) s (λ l f. ap (λ (b : Bool). branch b p q l) (ap t f ∙ e)) g
-      by false e = ok-as q (pick t p q) s (λ l f. ap (λ (b : Bool). branch b p q l) (ap t f ∙ e)) h
+      by true e = ok-as p (pick t p q) s (λ l f. ap (λ (b : Bool). choose b p q l) (ap t f ∙ e)) g
+      by false e = ok-as q (pick t p q) s (λ l f. ap (λ (b : Bool). choose b p q l) (ap t f ∙ e)) h
 
   one-no : (t : ℕ → Bool) (k : ℕ → List ℕ → Res A) (l : List ℕ) → t (head0 l) ≡ false → one t k l ≡ bad l
   one-no t k [] e = refl
-  one-no t k (b ∷ r) e = ap (λ (x : Bool). branch x (λ l. k b r) bad (b ∷ r)) e
+  one-no t k (b ∷ r) e = ap (λ (x : Bool). choose x (λ l. k b r) bad (b ∷ r)) e
 
   one-yes : (t : ℕ → Bool) (k : ℕ → List ℕ → Res A) (b : ℕ) (r : List ℕ) → t b ≡ true → one t k (b ∷ r) ≡ k b r
-  one-yes t k b r e = ap (λ (x : Bool). branch x (λ l. k b r) bad (b ∷ r)) e
+  one-yes t k b r e = ap (λ (x : Bool). choose x (λ l. k b r) bad (b ∷ r)) e
 
   one-of : (t : ℕ → Bool) (k : ℕ → List ℕ → Res A) (b : ℕ) (r : List ℕ) → t b ≡ true → (x : Res A)
       → OkOf spell Valid (pre ++ (b ∷ [])) (k b) r x → OkOf spell Valid pre (one t k) (b ∷ r) x
@@ -112,7 +112,7 @@ module _ {A : Type 0} (spell : A → List ℕ) (Valid : A → Type 0) (pre : Lis
 
   -- the byte x
   pub ok-after : (x : ℕ) (p : List ℕ → Res A) (s : List ℕ) → eqb 0 x ≡ false → Goes spell Valid pre
-      → ((r : List ℕ) → Ok spell Valid (pre ++ (x ∷ [])) p r) → Ok spell Valid pre (after x p) s
+      → ((r : List ℕ) → Ok spell Valid (pre ++ (x ∷ [])) p r) → Ok spell Valid pre (expect x p) s
   ok-after x p s z g h =
       ok-one (is x) (λ b. p) s z g (λ b r e. subst (λ (y : ℕ). Ok spell Valid (pre ++ (y ∷ [])) p r) (sym (eqb-true b x e)) (h r))
 
@@ -124,14 +124,14 @@ module _ {A : Type 0} (spell : A → List ℕ) (Valid : A → Type 0) (pre : Lis
         text = rw append-assoc (g .text ∙ ap (λ (x : List ℕ). g .part ++ x) (y .text));
         spelt = sym (append-assoc pre (g .part) (y .part)) ∙ (ap (λ (x : List ℕ). (pre ++ x) ++ y .part) (g .spelt) ∙ y .spelt);
         valid = y .valid;
-        local = λ m h. rw append-assoc (ap (λ x. bind x k) (g .local (y .part ++ m) (head-same (y .part) m l h ∙ ap head0 (sym (y .text)))) ∙ y .local m h);
+        local = λ m h. rw append-assoc (ap (λ x. onward x k) (g .local (y .part ++ m) (head-same (y .part) m l h ∙ ap head0 (sym (y .text)))) ∙ y .local m h);
       }
   then-of spellB ValidB p k s b r g (bad l) y =
       record {
         part = g .part ++ y .part;
         text = rw append-assoc (g .text ∙ ap (λ (x : List ℕ). g .part ++ x) (y .text));
         goes = subst (λ (x : List ℕ). Goes spell Valid x) (ap (λ (x : List ℕ). (pre ++ x) ++ y .part) (sym (g .spelt)) ∙ append-assoc pre (g .part) (y .part)) (y .goes);
-        local = λ m h. rw append-assoc (ap (λ x. bind x k) (g .local (y .part ++ m) (head-same (y .part) m l h ∙ ap head0 (sym (y .text)))) ∙ y .local m h);
+        local = λ m h. rw append-assoc (ap (λ x. onward x k) (g .local (y .part ++ m) (head-same (y .part) m l h ∙ ap head0 (sym (y .text)))) ∙ y .local m h);
       }
   then-of spellB ValidB p k s b r g out y = y
 
@@ -153,8 +153,8 @@ module _ {A : Type 0} (spell : A → List ℕ) (Valid : A → Type 0) (pre : Lis
       → Ok spell Valid pre (andThen p k) s
   ok-then {B} spellB ValidB p k s g e h = by (p s) g
     where
-      by : (x : Res B) → OkOf spellB ValidB [] p s x → OkOf spell Valid pre (andThen p k) s (bind x k)
+      by : (x : Res B) → OkOf spellB ValidB [] p s x → OkOf spell Valid pre (andThen p k) s (onward x k)
       by (good b r) y = then-of spellB ValidB p k s b r y (k b r) (h b r (y .valid))
       by (bad r) y =
-          record { part = y .part; text = y .text; goes = further spellB ValidB (y .part) (y .goes) e; local = λ l f. ap (λ x. bind x k) (y .local l f) }
+          record { part = y .part; text = y .text; goes = further spellB ValidB (y .part) (y .goes) e; local = λ l f. ap (λ x. onward x k) (y .local l f) }
       by out y = y

@@ -7,9 +7,9 @@ use native.Mathlib.Omega.{arith}
 use lib.IntN.{ℤ, pos, negsuc}
 use lib.ListN.{length, length-append}
 use Rattle.condition.specs.Token.{Compare, Token, push, ands, ors, nots}
-use Rattle.wording.specs.Grammar.{val, limit, Operand, name, integer, Condition, last, or, Term, only, and, Factor, not, paren, compare}
-use Rattle.wording.specs.Grammar.{textO, textR, textC, textT, textF, ValidO, ValidC, ValidT, ValidF}
-use Rattle.wording.specs.Stored.{wide, numberOf, integerOf, wordOf, laid, tokensOf}
+use Rattle.wording.specs.Grammar.{val, limit, Side, name, integer, Condition, last, or, Term, only, and, Factor, not, paren, compare}
+use Rattle.wording.specs.Grammar.{textS, textR, textC, textT, textF, ValidS, ValidC, ValidT, ValidF}
+use Rattle.wording.specs.Stored.{wide, numberOf, integerOf, wordFor, operandOf, tokensOf}
 use Rattle.wording.specs.Inner.Tokens.{tokensC, tokensOr, tokensT, tokensAnd, tokensF}
 use Rattle.wording.proofs.Longs.{length-wide}
 use Rattle.wording.proofs.Flat.{tokens-flat}
@@ -27,13 +27,13 @@ number-fits true zero h = omega arith
 number-fits true (suc n) h = omega arith
 number-fits false v h = omega arith
 
-word-small : (z : ℤ) → Fits z → wordOf z < 0x10000000000000000
-unfolding wordOf
+word-small : (z : ℤ) → Fits z → wordFor z < 0x10000000000000000
+unfolding wordFor
 word-small (pos n) h = omega arith
 word-small (negsuc n) h = omega arith
 
-pub operand-kept : (a : Operand) → ValidO a → length (textO a) ≤ 512 → Kept (push (laid a))
-unfolding ValidO laid textO Kept
+pub operand-kept : (a : Side) → ValidS a → length (textS a) ≤ 512 → Kept (push (operandOf a))
+unfolding ValidS operandOf textS Kept
 operand-kept (name b n) v h = let e = length-wide (b ∷ n) in (omega arith, omega arith, omega arith)
 operand-kept (integer neg b n) v h = word-small (integerOf neg b n) (number-fits neg (val (b - 48) n) (v .2))
 
@@ -48,11 +48,11 @@ all-append (t ∷ a) b k h = (k .0, all-append a b (k .1) h)
 two-parts : (a : List ℕ) (x : ℕ) (b : List ℕ) → length (a ++ x ∷ x ∷ b) ≤ 512 → (length a ≤ 512) × (length b ≤ 512)
 two-parts a x b h = let e = length-append a (x ∷ x ∷ b) in (omega arith, omega arith)
 
-compare-kept : (a : Operand) (r : Compare) (b : Operand) → ValidO a → ValidO b → length (textF (compare a r b)) ≤ 512 → AllKept (tokensF (compare a r b))
+compare-kept : (a : Side) (r : Compare) (b : Side) → ValidS a → ValidS b → length (textF (compare a r b)) ≤ 512 → AllKept (tokensF (compare a r b))
 unfolding tokensC textC AllKept Kept
 compare-kept a r b v w h =
-    let x = length-append (textO a) (textR r ++ textO b) in
-    let y = length-append (textR r) (textO b) in
+    let x = length-append (textS a) (textR r ++ textS b) in
+    let y = length-append (textR r) (textS b) in
     (operand-kept a v (omega arith), (operand-kept b w (omega arith), (tt, tt)))
 
 mutual

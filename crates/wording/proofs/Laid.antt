@@ -15,7 +15,7 @@ use Rattle.octets.proofs.Writes.{put-all}
 use Rattle.octets.proofs.Little.{length-spell}
 use Rattle.condition.specs.Token.{number, name as named, push}
 use Rattle.wording.specs.declared.tallies.Tally.{Tally}
-use Rattle.wording.specs.Stored.{wide, numberOf, wordOf, bytesOf}
+use Rattle.wording.specs.Stored.{wide, numberOf, wordFor, tokenBytes}
 use Rattle.wording.specs.Inner.Walk.{putB}
 use Rattle.wording.proofs.Longs.{length-wide, name-long}
 
@@ -33,20 +33,20 @@ no-room b w o h = rw (lt-leb (w .size + length b) (length o) h) refl
 
 -- ---- a number's word
 
-pub word-plain : (neg : Bool) (v : ℕ) → neg ≡ false → v ≡ wordOf (numberOf neg v)
-unfolding wordOf
+pub word-plain : (neg : Bool) (v : ℕ) → neg ≡ false → v ≡ wordFor (numberOf neg v)
+unfolding wordFor
 word-plain neg v e = rw e refl
 
-pub word-none : (neg : Bool) (v : ℕ) → neg ≡ true → v ≡ 0 → 0 ≡ wordOf (numberOf neg v)
-unfolding wordOf
+pub word-none : (neg : Bool) (v : ℕ) → neg ≡ true → v ≡ 0 → 0 ≡ wordFor (numberOf neg v)
+unfolding wordFor
 word-none neg v e f = rw (e, f) refl
 
-minus : (v : ℕ) → (v ≡ 0 → ⊥) → 0xFFFFFFFFFFFFFFFF - (v - 1) ≡ wordOf (numberOf true v)
-unfolding wordOf
+minus : (v : ℕ) → (v ≡ 0 → ⊥) → 0xFFFFFFFFFFFFFFFF - (v - 1) ≡ wordFor (numberOf true v)
+unfolding wordFor
 minus zero f = absurd (f refl)
 minus (suc v) f = let e : suc v - 1 ≡ v = omega arith in ap (λ (n : ℕ). 0xFFFFFFFFFFFFFFFF - n) e
 
-pub word-minus : (neg : Bool) (v : ℕ) → neg ≡ true → (v ≡ 0 → ⊥) → 0xFFFFFFFFFFFFFFFF - (v - 1) ≡ wordOf (numberOf neg v)
+pub word-minus : (neg : Bool) (v : ℕ) → neg ≡ true → (v ≡ 0 → ⊥) → 0xFFFFFFFFFFFFFFFF - (v - 1) ≡ wordFor (numberOf neg v)
 word-minus neg v e f = rw e (minus v f)
 
 -- ---- a name's bytes
@@ -100,17 +100,17 @@ put-first b l h = rw zero-add (sym (put-all b l h))
 -- both together are the token
 pub name-all : (s l : List ℕ) (i m : ℕ) → i ≡ length s → m ≡ 2 * length s → m ≤ 1024 → 5 + 2 * length s ≤ length l
     → putAt 5 (wide (take i s)) (set (set (set (set (set l 0 0xF8) 1 (m % 256)) 2 (m / 256)) 3 0) 4 0)
-    ≡ putOn (bytesOf (push (named (wide s)))) l
-unfolding bytesOf putAt
+    ≡ putOn (tokenBytes (push (named (wide s)))) l
+unfolding tokenBytes putAt
 name-all s l i m e f h k =
     let b : List ℕ = 0xF8 ∷ spell 4 m in
     let n : length b ≡ 5 = ap suc (length-spell 4 m) in
     let j : 0 + length b + length (wide s) ≤ length l = omega (arith, length-wide s) in
     let z : 0 + length b ≡ 5 = omega (arith, n) in
     let q : length (wide s) ≡ m = length-wide s ∙ sym f in
-    let r : length (bytesOf (push (named (wide s)))) ≤ length l = omega (arith, name-long s) in
+    let r : length (tokenBytes (push (named (wide s)))) ≤ length l = omega (arith, name-long s) in
     rw (e, take-length s) (ap (putAt 5 (wide s)) (name-head m l h (omega arith))
     ∙ ap (λ (y : ℕ). putAt y (wide s) (putAt 0 b l)) (sym z)
     ∙ put-append 0 b (wide s) l j
     ∙ ap (λ (y : ℕ). putAt 0 ((0xF8 ∷ spell 4 y) ++ wide s) l) (sym q)
-    ∙ put-first (bytesOf (push (named (wide s)))) l r)
+    ∙ put-first (tokenBytes (push (named (wide s)))) l r)

@@ -12,8 +12,8 @@ use Rattle.wording.specs.declared.operands.Found.{Found}
 use Rattle.wording.specs.declared.operands.Found.the-variants.{Name, Number, Wrong}
 use Rattle.wording.specs.declared.signs.Sign.{Sign}
 use Rattle.wording.specs.declared.signs.Sign.the-variants.{Is, Not}
-use Rattle.wording.specs.Grammar.{digit, letter, alnum, val, limit, Operand, name, integer}
-use Rattle.wording.specs.Reader.{Res, good, bad, out, head0, bind, andThen, branch, pick, done, one, is, after, readRest, readDigits, readNumber, readOperand, readSign}
+use Rattle.wording.specs.Grammar.{digit, letter, alnum, val, limit, Side, name, integer}
+use Rattle.wording.specs.Reader.{Res, good, bad, out, head0, onward, andThen, choose, pick, give, one, is, expect, readRest, readDigits, readNumber, readOperand, readSign}
 use Rattle.wording.specs.Stored.{codeOf}
 use Rattle.wording.specs.Inner.Walk.{isAt}
 use Rattle.wording.specs.Inner.Leaf.{classOf, ClassAt, NameEnd, digitsFound, foundOf, signOf}
@@ -145,7 +145,7 @@ module _ (s : List ℕ) (at : ℕ) where
       let l = k .low in
       record {
         name = getD s at 0 ∷ k .name;
-        reads = ap readRest (next-at h) ∙ (rest-yes (getD s at 0) (drop (at + 1) s) (is-alnum (getD s at 0) e) ∙ ap (λ y. bind y (λ n m. good (getD s at 0 ∷ n) m)) (k .reads));
+        reads = ap readRest (next-at h) ∙ (rest-yes (getD s at 0) (drop (at + 1) s) (is-alnum (getD s at 0) e) ∙ ap (λ y. onward y (λ n m. good (getD s at 0 ∷ n) m)) (k .reads));
         low = omega arith;
         top = k .top;
       }
@@ -171,7 +171,7 @@ module _ (s : List ℕ) (at : ℕ) where
       ap (λ (y : ℕ). leb (v * 10 + (y - 48)) (limit neg)) (head-at s at) ∙ lt-leb (v * 10 + (getD s at 0 - 48)) (limit neg) (omega (arith, over neg v d (q .1) g)) in
       ap Wrong (sym (back s at h)) ∙ ap (digitsFound (length s) neg v) (sym (digits-over neg v (drop at s) (ap digit (head-at s at) ∙ is-digit (getD s at 0) e) o))
 
-  more-of : (neg : Bool) (v b : ℕ) (x : Res (List ℕ)) → digitsFound (length s) neg (v * 10 + (b - 48)) x ≡ digitsFound (length s) neg v (bind x (λ n m. good (b ∷ n) m))
+  more-of : (neg : Bool) (v b : ℕ) (x : Res (List ℕ)) → digitsFound (length s) neg (v * 10 + (b - 48)) x ≡ digitsFound (length s) neg v (onward x (λ n m. good (b ∷ n) m))
   unfolding val
   more-of neg v b (good n l) = refl
   more-of neg v b (bad l) = refl
@@ -191,11 +191,11 @@ module _ (s : List ℕ) (at : ℕ) where
   unfolding readNumber
   number-none neg h e = ap Wrong (sym (back s at h)) ∙ ap (foundOf (length s)) (sym (one-stop (drop at s) (ap digit (head-at s at) ∙ no-digit (getD s at 0) e)))
     where
-      one-stop : (l : List ℕ) → digit (head0 l) ≡ false → one digit (λ b. andThen (readDigits neg (b - 48)) (λ n. done (integer neg b n))) l ≡ bad l
+      one-stop : (l : List ℕ) → digit (head0 l) ≡ false → one digit (λ b. andThen (readDigits neg (b - 48)) (λ n. give (integer neg b n))) l ≡ bad l
       one-stop [] q = refl
-      one-stop (b ∷ l) q = ap (λ (y : Bool). branch y (λ m. andThen (readDigits neg (b - 48)) (λ n. done (integer neg b n)) l) bad (b ∷ l)) q
+      one-stop (b ∷ l) q = ap (λ (y : Bool). choose y (λ m. andThen (readDigits neg (b - 48)) (λ n. give (integer neg b n)) l) bad (b ∷ l)) q
 
-  first-of : (neg : Bool) (b : ℕ) (x : Res (List ℕ)) → digitsFound (length s) neg (b - 48) x ≡ foundOf (length s) (bind x (λ n. done (integer neg b n)))
+  first-of : (neg : Bool) (b : ℕ) (x : Res (List ℕ)) → digitsFound (length s) neg (b - 48) x ≡ foundOf (length s) (onward x (λ n. give (integer neg b n)))
   first-of neg b (good n l) = refl
   first-of neg b (bad l) = refl
   first-of neg b out = refl
@@ -207,12 +207,12 @@ module _ (s : List ℕ) (at : ℕ) where
       let b = getD s at 0 in
       k ∙ (ap (λ (y : ℕ). digitsFound (length s) neg y (readDigits neg y (drop (at + 1) s))) q
       ∙ (first-of neg b (readDigits neg (b - 48) (drop (at + 1) s))
-      ∙ ap (foundOf (length s)) (sym (ap (one digit (λ b. andThen (readDigits neg (b - 48)) (λ n. done (integer neg b n)))) (next-at h)
-      ∙ ap (λ (y : Bool). branch y (λ m. andThen (readDigits neg (b - 48)) (λ n. done (integer neg b n)) (drop (at + 1) s)) bad (b ∷ drop (at + 1) s)) (is-digit b e)))))
+      ∙ ap (foundOf (length s)) (sym (ap (one digit (λ b. andThen (readDigits neg (b - 48)) (λ n. give (integer neg b n)))) (next-at h)
+      ∙ ap (λ (y : Bool). choose y (λ m. andThen (readDigits neg (b - 48)) (λ n. give (integer neg b n)) (drop (at + 1) s)) bad (b ∷ drop (at + 1) s)) (is-digit b e)))))
 
   -- ---- operands
-  abbrev readName : List ℕ → Res Operand
-  readName = one letter (λ b. andThen readRest (λ n. done (name b n)))
+  abbrev readName : List ℕ → Res Side
+  readName = one letter (λ b. andThen readRest (λ n. give (name b n)))
 
   pub op-name : at < length s → classOf (getD s at 0) ≡ 2 → (e : ℕ) → NameEnd s (at + 1) e → Name e ≡ foundOf (length s) (readOperand (drop at s))
   unfolding readOperand
@@ -220,23 +220,23 @@ module _ (s : List ℕ) (at : ℕ) where
       let b = getD s at 0 in
       let l = is-letter b c in
       ap Name (sym (back s e (k .top)))
-      ∙ ap (foundOf (length s)) (sym (pick-is true letter readName (pick (is 45) (after 45 (readNumber true)) (readNumber false)) (drop at s) (ap letter (head-at s at) ∙ l)
-      ∙ (ap readName (next-at h) ∙ (ap (λ (y : Bool). branch y (λ m. andThen readRest (λ n. done (name b n)) (drop (at + 1) s)) bad (b ∷ drop (at + 1) s)) l
-      ∙ ap (λ y. bind y (λ n. done (name b n))) (k .reads)))))
+      ∙ ap (foundOf (length s)) (sym (pick-is true letter readName (pick (is 45) (expect 45 (readNumber true)) (readNumber false)) (drop at s) (ap letter (head-at s at) ∙ l)
+      ∙ (ap readName (next-at h) ∙ (ap (λ (y : Bool). choose y (λ m. andThen readRest (λ n. give (name b n)) (drop (at + 1) s)) bad (b ∷ drop (at + 1) s)) l
+      ∙ ap (λ y. onward y (λ n. give (name b n))) (k .reads)))))
 
-  not-name : (classOf (getD s at 0) ≡ 2 → ⊥) → readOperand (drop at s) ≡ pick (is 45) (after 45 (readNumber true)) (readNumber false) (drop at s)
+  not-name : (classOf (getD s at 0) ≡ 2 → ⊥) → readOperand (drop at s) ≡ pick (is 45) (expect 45 (readNumber true)) (readNumber false) (drop at s)
   unfolding readOperand
-  not-name c = pick-is false letter readName (pick (is 45) (after 45 (readNumber true)) (readNumber false)) (drop at s) (ap letter (head-at s at) ∙ no-letter (getD s at 0) c)
+  not-name c = pick-is false letter readName (pick (is 45) (expect 45 (readNumber true)) (readNumber false)) (drop at s) (ap letter (head-at s at) ∙ no-letter (getD s at 0) c)
 
   pub op-minus : (classOf (getD s at 0) ≡ 2 → ⊥) → isAt s at 45 ≡ true → at < length s → (r : Found)
       → r ≡ foundOf (length s) (readNumber true (drop (at + 1) s)) → r ≡ foundOf (length s) (readOperand (drop at s))
   op-minus c b h r k =
-      k ∙ ap (foundOf (length s)) (sym (not-name c ∙ (pick-is true (is 45) (after 45 (readNumber true)) (readNumber false) (drop at s) (ap (is 45) (head-at s at) ∙ b)
+      k ∙ ap (foundOf (length s)) (sym (not-name c ∙ (pick-is true (is 45) (expect 45 (readNumber true)) (readNumber false) (drop at s) (ap (is 45) (head-at s at) ∙ b)
       ∙ after-yes 45 (readNumber true) s at b h refl)))
 
   pub op-plain : (classOf (getD s at 0) ≡ 2 → ⊥) → isAt s at 45 ≡ false → (r : Found) → r ≡ foundOf (length s) (readNumber false (drop at s)) → r ≡ foundOf (length s) (readOperand (drop at s))
   op-plain c b r k =
-      k ∙ ap (foundOf (length s)) (sym (not-name c ∙ pick-is false (is 45) (after 45 (readNumber true)) (readNumber false) (drop at s) (not-here s at 45 b)))
+      k ∙ ap (foundOf (length s)) (sym (not-name c ∙ pick-is false (is 45) (expect 45 (readNumber true)) (readNumber false) (drop at s) (not-here s at 45 b)))
 
 pub limit-low : (neg : Bool) → 9 ≤ limit neg
 limit-low true = omega arith
@@ -249,16 +249,16 @@ limit-high false = omega arith
 -- ---- the six comparisons
 module _ (s : List ℕ) (at : ℕ) (low : at ≤ length s) where
   abbrev signA : List ℕ → Res Compare
-  signA = after 61 (after 61 (done equal))
+  signA = expect 61 (expect 61 (give equal))
 
   abbrev signB : List ℕ → Res Compare
-  signB = after 33 (after 61 (done unequal))
+  signB = expect 33 (expect 61 (give unequal))
 
   abbrev signC : List ℕ → Res Compare
-  signC = after 60 (pick (is 61) (after 61 (done atMost)) (done below))
+  signC = expect 60 (pick (is 61) (expect 61 (give atMost)) (give below))
 
   abbrev signD : List ℕ → Res Compare
-  signD = after 62 (pick (is 61) (after 61 (done atLeast)) (done above))
+  signD = expect 62 (pick (is 61) (expect 61 (give atLeast)) (give above))
 
   yes-at : (x : ℕ) → isAt s at x ≡ true → is x (head0 (drop at s)) ≡ true
   yes-at x b = ap (is x) (head-at s at) ∙ b
@@ -299,24 +299,24 @@ module _ (s : List ℕ) (at : ℕ) (low : at ≤ length s) where
 
   -- x and then `=`
   both-bytes : (x : ℕ) (c : Compare) → eqb x x ≡ true → isAt s at x ≡ true → at < length s → isAt s (at + 1) 61 ≡ true → at + 1 < length s
-      → after x (after 61 (done c)) (drop at s) ≡ good c (drop (at + 2) s)
+      → expect x (expect 61 (give c)) (drop at s) ≡ good c (drop (at + 2) s)
   both-bytes x c z b h d i =
-      after-yes x (after 61 (done c)) s at b h z ∙ (after-yes 61 (done c) s (at + 1) d i refl ∙ ap (λ (n : ℕ). good c (drop n s)) two)
+      after-yes x (expect 61 (give c)) s at b h z ∙ (after-yes 61 (give c) s (at + 1) d i refl ∙ ap (λ (n : ℕ). good c (drop n s)) two)
 
-  one-byte : (x : ℕ) (c : Compare) → eqb x x ≡ true → isAt s at x ≡ true → at < length s → isAt s (at + 1) 61 ≡ false → after x (after 61 (done c)) (drop at s) ≡ bad (drop (at + 1) s)
-  one-byte x c z b h d = after-yes x (after 61 (done c)) s at b h z ∙ after-no 61 (done c) (drop (at + 1) s) (not-here s (at + 1) 61 d)
+  one-byte : (x : ℕ) (c : Compare) → eqb x x ≡ true → isAt s at x ≡ true → at < length s → isAt s (at + 1) 61 ≡ false → expect x (expect 61 (give c)) (drop at s) ≡ bad (drop (at + 1) s)
+  one-byte x c z b h d = after-yes x (expect 61 (give c)) s at b h z ∙ after-no 61 (give c) (drop (at + 1) s) (not-here s (at + 1) 61 d)
 
   long-one : (x : ℕ) (c e : Compare) → eqb x x ≡ true → isAt s at x ≡ true → at < length s → isAt s (at + 1) 61 ≡ true → at + 1 < length s
-      → after x (pick (is 61) (after 61 (done c)) (done e)) (drop at s) ≡ good c (drop (at + 2) s)
+      → expect x (pick (is 61) (expect 61 (give c)) (give e)) (drop at s) ≡ good c (drop (at + 2) s)
   long-one x c e z b h d i =
-      after-yes x (pick (is 61) (after 61 (done c)) (done e)) s at b h z
-      ∙ (pick-is true (is 61) (after 61 (done c)) (done e) (drop (at + 1) s) (ap (is 61) (head-at s (at + 1)) ∙ d)
-      ∙ (after-yes 61 (done c) s (at + 1) d i refl ∙ ap (λ (n : ℕ). good c (drop n s)) two))
+      after-yes x (pick (is 61) (expect 61 (give c)) (give e)) s at b h z
+      ∙ (pick-is true (is 61) (expect 61 (give c)) (give e) (drop (at + 1) s) (ap (is 61) (head-at s (at + 1)) ∙ d)
+      ∙ (after-yes 61 (give c) s (at + 1) d i refl ∙ ap (λ (n : ℕ). good c (drop n s)) two))
 
   short-one : (x : ℕ) (c e : Compare) → eqb x x ≡ true → isAt s at x ≡ true → at < length s → isAt s (at + 1) 61 ≡ false
-      → after x (pick (is 61) (after 61 (done c)) (done e)) (drop at s) ≡ good e (drop (at + 1) s)
+      → expect x (pick (is 61) (expect 61 (give c)) (give e)) (drop at s) ≡ good e (drop (at + 1) s)
   short-one x c e z b h d =
-      after-yes x (pick (is 61) (after 61 (done c)) (done e)) s at b h z ∙ pick-is false (is 61) (after 61 (done c)) (done e) (drop (at + 1) s) (not-here s (at + 1) 61 d)
+      after-yes x (pick (is 61) (expect 61 (give c)) (give e)) s at b h z ∙ pick-is false (is 61) (expect 61 (give c)) (give e) (drop (at + 1) s) (not-here s (at + 1) 61 d)
 
   abbrev Says : Sign → Type 0
   Says r = r ≡ signOf (length s) (readSign (drop at s))
@@ -350,7 +350,7 @@ module _ (s : List ℕ) (at : ℕ) (low : at ≤ length s) where
 
       module _ (k : isAt s at 60 ≡ false) where
         pub sign-none : isAt s at 62 ≡ false → Says (Not at)
-        sign-none b = gives-not at low (step-d n m k ∙ after-no 62 (pick (is 61) (after 61 (done atLeast)) (done above)) (drop at s) (not-here s at 62 b))
+        sign-none b = gives-not at low (step-d n m k ∙ after-no 62 (pick (is 61) (expect 61 (give atLeast)) (give above)) (drop at s) (not-here s at 62 b))
 
         module _ (b : isAt s at 62 ≡ true) (h : at < length s) where
           pub sign-least : isAt s (at + 1) 61 ≡ true → at + 1 < length s → Says (Is 133 (at + 2))

@@ -11,9 +11,9 @@ use Rattle.condition.specs.Token.{Compare, signed}
 use Rattle.condition.specs.Table.{Attribute}
 use Rattle.condition.specs.Meaning.{andOf, orOf, notOf, valueOf, comparing}
 use Rattle.condition.specs.Tree.{Formula, conjunction, disjunction, meaning}
-use Rattle.wording.specs.Grammar.{val, Operand, name, integer, Condition, last, or, Term, only, and, Factor, not, paren, compare, ValidO, ValidC, ValidT, ValidF}
-use Rattle.wording.specs.Stored.{integerOf, wordOf, laid, formulaC, orAll, formulaT, andAll, formulaF}
-use Rattle.wording.specs.Meaning.{compared, valueO, meansC, meansOr, meansT, meansAnd, meansF}
+use Rattle.wording.specs.Grammar.{val, Side, name, integer, Condition, last, or, Term, only, and, Factor, not, paren, compare, ValidS, ValidC, ValidT, ValidF}
+use Rattle.wording.specs.Stored.{integerOf, wordFor, operandOf, formulaC, orAll, formulaT, andAll, formulaF}
+use Rattle.wording.specs.Meaning.{compared, valueS, meansC, meansOr, meansT, meansAnd, meansF}
 use Rattle.wording.proofs.Kept.{Fits, number-fits}
 
 -- ---- numbers
@@ -32,8 +32,8 @@ sub-neg a b n e =
     simp (tests, d)
 
 -- the word of a number of signed 64 bits is read back as it
-pub signed-word : (z : ℤ) → Fits z → signed (wordOf z) ≡ z
-unfolding signed wordOf
+pub signed-word : (z : ℤ) → Fits z → signed (wordFor z) ≡ z
+unfolding signed wordFor
 signed-word (pos n) h = sub-pos ((n + 0x8000000000000000) % 0x10000000000000000) 0x8000000000000000 n (mod-eq-of-lt (omega arith) ∙ omega arith)
 signed-word (negsuc n) h =
     let k = 0x7FFFFFFFFFFFFFFF - n in
@@ -52,8 +52,8 @@ compared-is r (some a) (some b) = refl
 
 module _ (table : List Attribute) where
   -- an operand as it is laid has the number that its text has
-  pub value-is : (a : Operand) → ValidO a → Option·map signed (valueOf table (laid a)) ≡ valueO table a
-  unfolding valueOf valueO laid ValidO
+  pub value-is : (a : Side) → ValidS a → Option·map signed (valueOf table (operandOf a)) ≡ valueS table a
+  unfolding valueOf valueS operandOf ValidS
   value-is (name b n) v = refl
   value-is (integer neg b n) v = ap {B = Option ℤ} some (signed-word (integerOf neg b n) (number-fits neg (val (b - 48) n) (v .2)))
 
@@ -85,7 +85,7 @@ module _ (table : List Attribute) where
     factor-means (not f) d v = ap notOf (factor-means f d v)
     factor-means (paren c) d v = condition-means c (d - 1) (v .1)
     factor-means (compare a r b) d v =
-        compared-is r (valueOf table (laid a)) (valueOf table (laid b)) ∙ ap₂ (compared r) (value-is a (v .0)) (value-is b (v .1))
+        compared-is r (valueOf table (operandOf a)) (valueOf table (operandOf b)) ∙ ap₂ (compared r) (value-is a (v .0)) (value-is b (v .1))
 
   -- the formula says what the tree means
   pub formula-means : (c : Condition) (d : ℕ) → ValidC c d → meaning table (formulaC c) ≡ meansC table c

@@ -9,8 +9,8 @@ use borrow.Author.Tests.{leb-true}
 use Rattle.octets.proofs.Tests.{both-true}
 use Rattle.condition.specs.Token.{Compare, above, atLeast, atMost, below, equal, number, unequal}
 use Rattle.wording.proofs.Keeps.{Ok, ok-after, ok-as, ok-done, ok-one, ok-one-at, ok-pick, ok-stop, ok-then}
-use Rattle.wording.specs.Grammar.{Factor, Goes, Operand, ValidF, ValidO, all, alnum, and, compare, digit, integer, letter, limit, name, or, textF, textO, textR, val}
-use Rattle.wording.specs.Reader.{Res, after, andThen, bad, bind, branch, done, good, head0, is, one, pick, readComparison, readDigits, readNumber, readOperand, readRest, readSign, stop}
+use Rattle.wording.specs.Grammar.{Factor, Goes, Side, ValidF, ValidS, all, alnum, and, compare, digit, integer, letter, limit, name, or, textF, textS, textR, val}
+use Rattle.wording.specs.Reader.{Res, expect, andThen, bad, onward, choose, give, good, head0, is, one, pick, readComparison, readDigits, readNumber, readOperand, readRest, readSign, stop}
 
 pub both-is : (a b : Bool) → a ≡ true → b ≡ true → (a && b) ≡ true
 both-is a b e f = ap (λ (x : Bool). x && b) e ∙ f
@@ -28,19 +28,19 @@ itself n = n
 pub rest-no : (l : List ℕ) → alnum (head0 l) ≡ false → readRest l ≡ good [] l
 unfolding readRest
 rest-no [] e = refl
-rest-no (b ∷ r) e = ap (λ (x : Bool). branch x (λ l. bind (readRest r) (λ n l. good (b ∷ n) l)) (good []) (b ∷ r)) e
+rest-no (b ∷ r) e = ap (λ (x : Bool). choose x (λ l. onward (readRest r) (λ n l. good (b ∷ n) l)) (good []) (b ∷ r)) e
 
-pub rest-yes : (b : ℕ) (r : List ℕ) → alnum b ≡ true → readRest (b ∷ r) ≡ bind (readRest r) (λ n l. good (b ∷ n) l)
+pub rest-yes : (b : ℕ) (r : List ℕ) → alnum b ≡ true → readRest (b ∷ r) ≡ onward (readRest r) (λ n l. good (b ∷ n) l)
 unfolding readRest
-rest-yes b r e = ap (λ (x : Bool). branch x (λ l. bind (readRest r) (λ n l. good (b ∷ n) l)) (good []) (b ∷ r)) e
+rest-yes b r e = ap (λ (x : Bool). choose x (λ l. onward (readRest r) (λ n l. good (b ∷ n) l)) (good []) (b ∷ r)) e
 
 abbrev rest-one : ℕ → List ℕ → Res (List ℕ)
-rest-one b = andThen readRest (λ n. done (b ∷ n))
+rest-one b = andThen readRest (λ n. give (b ∷ n))
 
 rest-as : (l : List ℕ) → alnum (head0 l) ≡ true → readRest l ≡ one alnum rest-one l
 unfolding alnum letter digit
 rest-as [] e = absurd (clash e)
-rest-as (b ∷ r) e = rest-yes b r e ∙ sym (ap (λ (x : Bool). branch x (λ l. rest-one b r) bad (b ∷ r)) e)
+rest-as (b ∷ r) e = rest-yes b r e ∙ sym (ap (λ (x : Bool). choose x (λ l. rest-one b r) bad (b ∷ r)) e)
 
 alnums-cons : (b : ℕ) (n : List ℕ) → alnum b ≡ true → Alnums n → Alnums (b ∷ n)
 unfolding all
@@ -58,12 +58,12 @@ rest-step : (b : ℕ) (r : List ℕ) → alnum b ≡ true → Ok itself Alnums [
 rest-step b r e h =
     ok-as itself Alnums [] (one alnum rest-one) readRest (b ∷ r) (λ l f. rest-as l (ap alnum f ∙ e))
     (ok-one-at itself Alnums [] alnum rest-one b r e
-    (ok-then itself Alnums (b ∷ []) itself Alnums readRest (λ n. done (b ∷ n)) r h
+    (ok-then itself Alnums (b ∷ []) itself Alnums readRest (λ n. give (b ∷ n)) r h
     (λ n v. record { rest = []; tree = b ∷ n; valid = alnums-cons b n e v; spelt = append-nil (b ∷ n) })
     (λ n l v. ok-done itself Alnums (b ∷ n) (b ∷ n) l refl (alnums-cons b n e v))))
 
 rest-end : (s : List ℕ) → alnum (head0 s) ≡ false → Ok itself Alnums [] readRest s
-rest-end s e = ok-as itself Alnums [] (done []) readRest s (λ l f. rest-no l (ap alnum f ∙ e)) (ok-done itself Alnums [] [] s refl alnums-nil)
+rest-end s e = ok-as itself Alnums [] (give []) readRest s (λ l f. rest-no l (ap alnum f ∙ e)) (ok-done itself Alnums [] [] s refl alnums-nil)
 
 pub ok-rest : (s : List ℕ) → Ok itself Alnums [] readRest s
 ok-rest [] = rest-end [] alnum-zero
@@ -86,31 +86,31 @@ module _ (neg : Bool) where
   nextv v b = v * 10 + (b - 48)
 
   abbrev digits-then : ℕ → ℕ → List ℕ → Res (List ℕ)
-  digits-then v b = andThen (readDigits neg (nextv v b)) (λ n. done (b ∷ n))
+  digits-then v b = andThen (readDigits neg (nextv v b)) (λ n. give (b ∷ n))
 
   pub digits-no : (v : ℕ) (l : List ℕ) → digit (head0 l) ≡ false → readDigits neg v l ≡ good [] l
   unfolding readDigits
   digits-no v [] e = refl
   digits-no v (b ∷ r) e =
-      ap (λ (x : Bool). branch x (branch (leb (nextv v b) (limit neg)) (λ l. digits-then v b r) bad) (good []) (b ∷ r)) e
+      ap (λ (x : Bool). choose x (choose (leb (nextv v b) (limit neg)) (λ l. digits-then v b r) bad) (good []) (b ∷ r)) e
 
   pub digits-yes : (v b : ℕ) (r : List ℕ) → digit b ≡ true → leb (nextv v b) (limit neg) ≡ true → readDigits neg v (b ∷ r) ≡ digits-then v b r
   unfolding readDigits
   digits-yes v b r e f =
-      ap (λ (x : Bool). branch x (branch (leb (nextv v b) (limit neg)) (λ l. digits-then v b r) bad) (good []) (b ∷ r)) e
-      ∙ ap (λ (x : Bool). branch x (λ l. digits-then v b r) bad (b ∷ r)) f
+      ap (λ (x : Bool). choose x (choose (leb (nextv v b) (limit neg)) (λ l. digits-then v b r) bad) (good []) (b ∷ r)) e
+      ∙ ap (λ (x : Bool). choose x (λ l. digits-then v b r) bad (b ∷ r)) f
 
   pub digits-over : (v : ℕ) (l : List ℕ) → digit (head0 l) ≡ true → leb (nextv v (head0 l)) (limit neg) ≡ false → readDigits neg v l ≡ bad l
   unfolding readDigits digit
   digits-over v [] e f = absurd (clash e)
   digits-over v (b ∷ r) e f =
-      ap (λ (x : Bool). branch x (branch (leb (nextv v b) (limit neg)) (λ l. digits-then v b r) bad) (good []) (b ∷ r)) e
-      ∙ ap (λ (x : Bool). branch x (λ l. digits-then v b r) bad (b ∷ r)) f
+      ap (λ (x : Bool). choose x (choose (leb (nextv v b) (limit neg)) (λ l. digits-then v b r) bad) (good []) (b ∷ r)) e
+      ∙ ap (λ (x : Bool). choose x (λ l. digits-then v b r) bad (b ∷ r)) f
 
   digits-as : (v : ℕ) (l : List ℕ) → digit (head0 l) ≡ true → leb (nextv v (head0 l)) (limit neg) ≡ true → readDigits neg v l ≡ one digit (digits-then v) l
   unfolding digit
   digits-as v [] e f = absurd (clash e)
-  digits-as v (b ∷ r) e f = digits-yes v b r e f ∙ sym (ap (λ (x : Bool). branch x (λ l. digits-then v b r) bad (b ∷ r)) e)
+  digits-as v (b ∷ r) e f = digits-yes v b r e f ∙ sym (ap (λ (x : Bool). choose x (λ l. digits-then v b r) bad (b ∷ r)) e)
 
   digits-cons : (v b : ℕ) (n : List ℕ) → digit b ≡ true → Digits (nextv v b) n → Digits v (b ∷ n)
   unfolding all val
@@ -126,13 +126,13 @@ module _ (neg : Bool) where
       ok-as itself (Digits v) [] (one digit (digits-then v)) (readDigits neg v) (b ∷ r)
       (λ l g. digits-as v l (ap digit g ∙ e) (ap (λ (x : ℕ). leb (nextv v x) (limit neg)) g ∙ f))
       (ok-one-at itself (Digits v) [] digit (digits-then v) b r e
-      (ok-then itself (Digits v) (b ∷ []) itself (Digits (nextv v b)) (readDigits neg (nextv v b)) (λ n. done (b ∷ n)) r h
+      (ok-then itself (Digits v) (b ∷ []) itself (Digits (nextv v b)) (readDigits neg (nextv v b)) (λ n. give (b ∷ n)) r h
       (λ n w. record { rest = []; tree = b ∷ n; valid = digits-cons v b n e w; spelt = append-nil (b ∷ n) })
       (λ n l w. ok-done itself (Digits v) (b ∷ n) (b ∷ n) l refl (digits-cons v b n e w))))
 
   digits-end : (v : ℕ) (s : List ℕ) → v ≤ limit neg → digit (head0 s) ≡ false → Ok itself (Digits v) [] (readDigits neg v) s
   digits-end v s h e =
-      ok-as itself (Digits v) [] (done []) (readDigits neg v) s (λ l f. digits-no v l (ap digit f ∙ e)) (ok-done itself (Digits v) [] [] s refl (digits-nil v h))
+      ok-as itself (Digits v) [] (give []) (readDigits neg v) s (λ l f. digits-no v l (ap digit f ∙ e)) (ok-done itself (Digits v) [] [] s refl (digits-nil v h))
 
   digits-stop : (v : ℕ) (s : List ℕ) → v ≤ limit neg → digit (head0 s) ≡ true → leb (nextv v (head0 s)) (limit neg) ≡ false → Ok itself (Digits v) [] (readDigits neg v) s
   digits-stop v s h e f =
@@ -165,55 +165,55 @@ abbrev pub sign : Bool → List ℕ
 sign true = 45 ∷ []
 sign false = []
 
-pub spell-integer : (neg : Bool) (b : ℕ) (n : List ℕ) → textO (integer neg b n) ≡ sign neg ++ (b ∷ n)
-unfolding textO
+pub spell-integer : (neg : Bool) (b : ℕ) (n : List ℕ) → textS (integer neg b n) ≡ sign neg ++ (b ∷ n)
+unfolding textS
 spell-integer true b n = refl
 spell-integer false b n = refl
 
 -- the number 1, or minus 1
-pub unit-valid : (neg : Bool) → ValidO (integer neg 49 [])
-unfolding ValidO digit all val
+pub unit-valid : (neg : Bool) → ValidS (integer neg 49 [])
+unfolding ValidS digit all val
 unit-valid true = (refl, refl, omega arith)
 unit-valid false = (refl, refl, omega arith)
 
-pub goes-number : (neg : Bool) → Goes textO ValidO (sign neg)
+pub goes-number : (neg : Bool) → Goes textS ValidS (sign neg)
 goes-number neg = record { rest = 49 ∷ []; tree = integer neg 49 []; valid = unit-valid neg; spelt = sym (spell-integer neg 49 []) }
 
-valid-integer : (neg : Bool) (b : ℕ) (n : List ℕ) → digit b ≡ true → Digits neg (b - 48) n → ValidO (integer neg b n)
-unfolding ValidO
+valid-integer : (neg : Bool) (b : ℕ) (n : List ℕ) → digit b ≡ true → Digits neg (b - 48) n → ValidS (integer neg b n)
+unfolding ValidS
 valid-integer neg b n e v = (e, v .0, v .1)
 
-valid-name : (b : ℕ) (n : List ℕ) → letter b ≡ true → Alnums n → ValidO (name b n)
-unfolding ValidO
+valid-name : (b : ℕ) (n : List ℕ) → letter b ≡ true → Alnums n → ValidS (name b n)
+unfolding ValidS
 valid-name b n e v = (e, v)
 
-pub ok-number : (neg : Bool) (s : List ℕ) → Ok textO ValidO (sign neg) (readNumber neg) s
+pub ok-number : (neg : Bool) (s : List ℕ) → Ok textS ValidS (sign neg) (readNumber neg) s
 unfolding readNumber
 ok-number neg s =
-    ok-one textO ValidO (sign neg) digit (λ b. andThen (readDigits neg (b - 48)) (λ n. done (integer neg b n))) s digit-zero (goes-number neg)
-    (λ b r e. ok-then textO ValidO (sign neg ++ (b ∷ [])) itself (Digits neg (b - 48)) (readDigits neg (b - 48)) (λ n. done (integer neg b n)) r
+    ok-one textS ValidS (sign neg) digit (λ b. andThen (readDigits neg (b - 48)) (λ n. give (integer neg b n))) s digit-zero (goes-number neg)
+    (λ b r e. ok-then textS ValidS (sign neg ++ (b ∷ [])) itself (Digits neg (b - 48)) (readDigits neg (b - 48)) (λ n. give (integer neg b n)) r
     (ok-digits neg r (b - 48) (digit-small neg b e))
     (λ n v. record { rest = []; tree = integer neg b n; valid = valid-integer neg b n e v; spelt = append-nil _ ∙ (append-assoc (sign neg) (b ∷ []) n ∙ sym (spell-integer neg b n)) })
-    (λ n l v. ok-done textO ValidO _ (integer neg b n) l (append-assoc (sign neg) (b ∷ []) n ∙ sym (spell-integer neg b n)) (valid-integer neg b n e v)))
+    (λ n l v. ok-done textS ValidS _ (integer neg b n) l (append-assoc (sign neg) (b ∷ []) n ∙ sym (spell-integer neg b n)) (valid-integer neg b n e v)))
 
 letter-zero : letter 0 ≡ false
 unfolding letter
 letter-zero = refl
 
-spell-name : (b : ℕ) (n : List ℕ) → (b ∷ n) ≡ textO (name b n)
-unfolding textO
+spell-name : (b : ℕ) (n : List ℕ) → (b ∷ n) ≡ textS (name b n)
+unfolding textS
 spell-name b n = refl
 
-pub ok-operand : (s : List ℕ) → Ok textO ValidO [] readOperand s
+pub ok-operand : (s : List ℕ) → Ok textS ValidS [] readOperand s
 unfolding readOperand
 ok-operand s =
-    ok-pick textO ValidO [] letter (one letter (λ b. andThen readRest (λ n. done (name b n)))) (pick (is 45) (after 45 (readNumber true)) (readNumber false)) s
-    (ok-one textO ValidO [] letter (λ b. andThen readRest (λ n. done (name b n))) s letter-zero (goes-number false)
-    (λ b r e. ok-then textO ValidO (b ∷ []) itself Alnums readRest (λ n. done (name b n)) r (ok-rest r)
+    ok-pick textS ValidS [] letter (one letter (λ b. andThen readRest (λ n. give (name b n)))) (pick (is 45) (expect 45 (readNumber true)) (readNumber false)) s
+    (ok-one textS ValidS [] letter (λ b. andThen readRest (λ n. give (name b n))) s letter-zero (goes-number false)
+    (λ b r e. ok-then textS ValidS (b ∷ []) itself Alnums readRest (λ n. give (name b n)) r (ok-rest r)
     (λ n v. record { rest = []; tree = name b n; valid = valid-name b n e v; spelt = append-nil _ ∙ spell-name b n })
-    (λ n l v. ok-done textO ValidO (b ∷ n) (name b n) l (spell-name b n) (valid-name b n e v))))
-    (ok-pick textO ValidO [] (is 45) (after 45 (readNumber true)) (readNumber false) s
-    (ok-after textO ValidO [] 45 (readNumber true) s refl (goes-number false) (ok-number true))
+    (λ n l v. ok-done textS ValidS (b ∷ n) (name b n) l (spell-name b n) (valid-name b n e v))))
+    (ok-pick textS ValidS [] (is 45) (expect 45 (readNumber true)) (readNumber false) s
+    (ok-after textS ValidS [] 45 (readNumber true) s refl (goes-number false) (ok-number true))
     (ok-number false s))
 
 -- ---- the six comparisons
@@ -226,20 +226,20 @@ goes-r pre w r e = record { rest = w; tree = r; valid = tt; spelt = e }
 pub ok-sign : (s : List ℕ) → Ok textR AnyR [] readSign s
 unfolding readSign textR
 ok-sign s =
-    ok-pick textR AnyR [] (is 61) (after 61 (after 61 (done equal))) _ s
-    (ok-after textR AnyR [] 61 (after 61 (done equal)) s refl (goes-r [] (61 ∷ 61 ∷ []) equal refl)
-    (λ l. ok-after textR AnyR (61 ∷ []) 61 (done equal) l refl (goes-r (61 ∷ []) (61 ∷ []) equal refl) (λ m. ok-done textR AnyR (61 ∷ 61 ∷ []) equal m refl tt)))
-    (ok-pick textR AnyR [] (is 33) (after 33 (after 61 (done unequal))) _ s
-    (ok-after textR AnyR [] 33 (after 61 (done unequal)) s refl (goes-r [] (61 ∷ 61 ∷ []) equal refl)
-    (λ l. ok-after textR AnyR (33 ∷ []) 61 (done unequal) l refl (goes-r (33 ∷ []) (61 ∷ []) unequal refl) (λ m. ok-done textR AnyR (33 ∷ 61 ∷ []) unequal m refl tt)))
-    (ok-pick textR AnyR [] (is 60) (after 60 (pick (is 61) (after 61 (done atMost)) (done below))) _ s
-    (ok-after textR AnyR [] 60 (pick (is 61) (after 61 (done atMost)) (done below)) s refl (goes-r [] (61 ∷ 61 ∷ []) equal refl)
-    (λ l. ok-pick textR AnyR (60 ∷ []) (is 61) (after 61 (done atMost)) (done below) l
-    (ok-after textR AnyR (60 ∷ []) 61 (done atMost) l refl (goes-r (60 ∷ []) [] below refl) (λ m. ok-done textR AnyR (60 ∷ 61 ∷ []) atMost m refl tt))
+    ok-pick textR AnyR [] (is 61) (expect 61 (expect 61 (give equal))) _ s
+    (ok-after textR AnyR [] 61 (expect 61 (give equal)) s refl (goes-r [] (61 ∷ 61 ∷ []) equal refl)
+    (λ l. ok-after textR AnyR (61 ∷ []) 61 (give equal) l refl (goes-r (61 ∷ []) (61 ∷ []) equal refl) (λ m. ok-done textR AnyR (61 ∷ 61 ∷ []) equal m refl tt)))
+    (ok-pick textR AnyR [] (is 33) (expect 33 (expect 61 (give unequal))) _ s
+    (ok-after textR AnyR [] 33 (expect 61 (give unequal)) s refl (goes-r [] (61 ∷ 61 ∷ []) equal refl)
+    (λ l. ok-after textR AnyR (33 ∷ []) 61 (give unequal) l refl (goes-r (33 ∷ []) (61 ∷ []) unequal refl) (λ m. ok-done textR AnyR (33 ∷ 61 ∷ []) unequal m refl tt)))
+    (ok-pick textR AnyR [] (is 60) (expect 60 (pick (is 61) (expect 61 (give atMost)) (give below))) _ s
+    (ok-after textR AnyR [] 60 (pick (is 61) (expect 61 (give atMost)) (give below)) s refl (goes-r [] (61 ∷ 61 ∷ []) equal refl)
+    (λ l. ok-pick textR AnyR (60 ∷ []) (is 61) (expect 61 (give atMost)) (give below) l
+    (ok-after textR AnyR (60 ∷ []) 61 (give atMost) l refl (goes-r (60 ∷ []) [] below refl) (λ m. ok-done textR AnyR (60 ∷ 61 ∷ []) atMost m refl tt))
     (ok-done textR AnyR (60 ∷ []) below l refl tt)))
-    (ok-after textR AnyR [] 62 (pick (is 61) (after 61 (done atLeast)) (done above)) s refl (goes-r [] (61 ∷ 61 ∷ []) equal refl)
-    (λ l. ok-pick textR AnyR (62 ∷ []) (is 61) (after 61 (done atLeast)) (done above) l
-    (ok-after textR AnyR (62 ∷ []) 61 (done atLeast) l refl (goes-r (62 ∷ []) [] above refl) (λ m. ok-done textR AnyR (62 ∷ 61 ∷ []) atLeast m refl tt))
+    (ok-after textR AnyR [] 62 (pick (is 61) (expect 61 (give atLeast)) (give above)) s refl (goes-r [] (61 ∷ 61 ∷ []) equal refl)
+    (λ l. ok-pick textR AnyR (62 ∷ []) (is 61) (expect 61 (give atLeast)) (give above) l
+    (ok-after textR AnyR (62 ∷ []) 61 (give atLeast) l refl (goes-r (62 ∷ []) [] above refl) (λ m. ok-done textR AnyR (62 ∷ 61 ∷ []) atLeast m refl tt))
     (ok-done textR AnyR (62 ∷ []) above l refl tt)))))
 
 -- ---- a comparison
@@ -247,34 +247,34 @@ module _ (d : ℕ) where
   abbrev pub ValF : Factor → Type 0
   ValF t = ValidF t d
 
-  goes-f : (pre w : List ℕ) (a : Operand) (r : Compare) (b : Operand) → ValidO a → ValidO b → pre ++ w ≡ textO a ++ (textR r ++ textO b) → Goes textF ValF pre
+  goes-f : (pre w : List ℕ) (a : Side) (r : Compare) (b : Side) → ValidS a → ValidS b → pre ++ w ≡ textS a ++ (textR r ++ textS b) → Goes textF ValF pre
   unfolding textF ValidF
   goes-f pre w a r b v u e = record { rest = w; tree = compare a r b; valid = (v, u); spelt = e }
 
-  spelt-eq : (a : Operand) → textO a ++ (61 ∷ 61 ∷ 49 ∷ []) ≡ textO a ++ (textR equal ++ textO (integer false 49 []))
-  unfolding textO textR
+  spelt-eq : (a : Side) → textS a ++ (61 ∷ 61 ∷ 49 ∷ []) ≡ textS a ++ (textR equal ++ textS (integer false 49 []))
+  unfolding textS textR
   spelt-eq a = refl
 
-  spelt-one : (a : Operand) (r : Compare) → (textO a ++ textR r) ++ (49 ∷ []) ≡ textO a ++ (textR r ++ textO (integer false 49 []))
-  unfolding textO
-  spelt-one a r = append-assoc (textO a) (textR r) (49 ∷ [])
+  spelt-one : (a : Side) (r : Compare) → (textS a ++ textR r) ++ (49 ∷ []) ≡ textS a ++ (textR r ++ textS (integer false 49 []))
+  unfolding textS
+  spelt-one a r = append-assoc (textS a) (textR r) (49 ∷ [])
 
-  done-f : (a : Operand) (r : Compare) (b : Operand) (l : List ℕ) → ValidO a → ValidO b → Ok textF ValF ((textO a ++ textR r) ++ textO b) (done (compare a r b)) l
+  done-f : (a : Side) (r : Compare) (b : Side) (l : List ℕ) → ValidS a → ValidS b → Ok textF ValF ((textS a ++ textR r) ++ textS b) (give (compare a r b)) l
   unfolding textF ValidF
-  done-f a r b l v u = ok-done textF ValF _ (compare a r b) l (append-assoc (textO a) (textR r) (textO b)) (v, u)
+  done-f a r b l v u = ok-done textF ValF _ (compare a r b) l (append-assoc (textS a) (textR r) (textS b)) (v, u)
 
   -- a comparison can always be begun
   pub goes-start : Goes textF ValF []
-  unfolding textO textR
+  unfolding textS textR
   goes-start = goes-f [] (49 ∷ 61 ∷ 61 ∷ 49 ∷ []) (integer false 49 []) equal (integer false 49 []) (unit-valid false) (unit-valid false) refl
 
   pub ok-comparison : (s : List ℕ) → Ok textF ValF [] readComparison s
   unfolding readComparison
   ok-comparison s =
-      ok-then textF ValF [] textO ValidO readOperand (λ a. andThen readSign (λ r. andThen readOperand (λ b. done (compare a r b)))) s (ok-operand s)
-      (λ a v. goes-f (textO a) (61 ∷ 61 ∷ 49 ∷ []) a equal (integer false 49 []) v (unit-valid false) (spelt-eq a))
-      (λ a l v. ok-then textF ValF (textO a) textR AnyR readSign (λ r. andThen readOperand (λ b. done (compare a r b))) l (ok-sign l)
-      (λ r u. goes-f (textO a ++ textR r) (49 ∷ []) a r (integer false 49 []) v (unit-valid false) (spelt-one a r))
-      (λ r m u. ok-then textF ValF (textO a ++ textR r) textO ValidO readOperand (λ b. done (compare a r b)) m (ok-operand m)
-      (λ b w. goes-f ((textO a ++ textR r) ++ textO b) [] a r b v w (append-nil _ ∙ append-assoc (textO a) (textR r) (textO b)))
+      ok-then textF ValF [] textS ValidS readOperand (λ a. andThen readSign (λ r. andThen readOperand (λ b. give (compare a r b)))) s (ok-operand s)
+      (λ a v. goes-f (textS a) (61 ∷ 61 ∷ 49 ∷ []) a equal (integer false 49 []) v (unit-valid false) (spelt-eq a))
+      (λ a l v. ok-then textF ValF (textS a) textR AnyR readSign (λ r. andThen readOperand (λ b. give (compare a r b))) l (ok-sign l)
+      (λ r u. goes-f (textS a ++ textR r) (49 ∷ []) a r (integer false 49 []) v (unit-valid false) (spelt-one a r))
+      (λ r m u. ok-then textF ValF (textS a ++ textR r) textS ValidS readOperand (λ b. give (compare a r b)) m (ok-operand m)
+      (λ b w. goes-f ((textS a ++ textR r) ++ textS b) [] a r b v w (append-nil _ ∙ append-assoc (textS a) (textR r) (textS b)))
       (λ b n w. done-f a r b n v w)))

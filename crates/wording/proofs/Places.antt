@@ -14,7 +14,7 @@ use Rattle.wording.specs.declared.conditions.Walked.{Walked}
 use Rattle.wording.specs.declared.conditions.Walked.the-variants.{Bad}
 use Rattle.wording.specs.Grammar.{and}
 use Rattle.wording.specs.Inner.Walk.{Outcome, isAt}
-use Rattle.wording.specs.Reader.{Res, after, bad, bind, branch, good, head0, is, one, out, pick}
+use Rattle.wording.specs.Reader.{Res, expect, bad, onward, choose, good, head0, is, one, out, pick}
 use Rattle.wording.specs.declared.tallies.Tally.{Tally}
 
 -- ---- places and what stands there
@@ -31,22 +31,22 @@ byte-here s p x e h = rw (add-one, drop-cons s p 0) (ap (λ (b : ℕ). b ∷ dro
 pub not-here : (s : List ℕ) (p x : ℕ) → isAt s p x ≡ false → is x (head0 (drop p s)) ≡ false
 not-here s p x e = ap (is x) (head-at s p) ∙ e
 
-pub after-no : {A : Type 0} (x : ℕ) (q : List ℕ → Res A) (l : List ℕ) → is x (head0 l) ≡ false → after x q l ≡ bad l
+pub after-no : {A : Type 0} (x : ℕ) (q : List ℕ → Res A) (l : List ℕ) → is x (head0 l) ≡ false → expect x q l ≡ bad l
 after-no x q [] e = refl
-after-no x q (b ∷ l) e = ap (λ (y : Bool). branch y (λ m. q l) bad (b ∷ l)) e
+after-no x q (b ∷ l) e = ap (λ (y : Bool). choose y (λ m. q l) bad (b ∷ l)) e
 
-pub after-yes : {A : Type 0} (x : ℕ) (q : List ℕ → Res A) (s : List ℕ) (p : ℕ) → isAt s p x ≡ true → p < length s → eqb x x ≡ true → after x q (drop p s) ≡ q (drop (p + 1) s)
-after-yes x q s p e h z = ap (after x q) (byte-here s p x e h) ∙ ap (λ (y : Bool). branch y (λ m. q (drop (p + 1) s)) bad (x ∷ drop (p + 1) s)) z
+pub after-yes : {A : Type 0} (x : ℕ) (q : List ℕ → Res A) (s : List ℕ) (p : ℕ) → isAt s p x ≡ true → p < length s → eqb x x ≡ true → expect x q (drop p s) ≡ q (drop (p + 1) s)
+after-yes x q s p e h z = ap (expect x q) (byte-here s p x e h) ∙ ap (λ (y : Bool). choose y (λ m. q (drop (p + 1) s)) bad (x ∷ drop (p + 1) s)) z
 
-pub pick-is : {A : Type 0} (b : Bool) (t : ℕ → Bool) (p q : List ℕ → Res A) (l : List ℕ) → t (head0 l) ≡ b → pick t p q l ≡ branch b p q l
-pick-is b t p q l e = ap (λ (y : Bool). branch y p q l) e
+pub pick-is : {A : Type 0} (b : Bool) (t : ℕ → Bool) (p q : List ℕ → Res A) (l : List ℕ) → t (head0 l) ≡ b → pick t p q l ≡ choose b p q l
+pick-is b t p q l e = ap (λ (y : Bool). choose y p q l) e
 
 pub back : (s : List ℕ) (p : ℕ) → p ≤ length s → length s - length (drop p s) ≡ p
 back s p h = omega (arith, length-drop p s)
 
 -- a refusal stays one
 pub bad-on : {A B : Type 0} (ta : A → List Token) (tb : B → List Token) (s : List ℕ) (w v : Tally) (o y : List ℕ) (k : A → List ℕ → Res B) (x : Res A) (r : Walked) (q : List ℕ) (m : ℕ)
-    → r ≡ Bad m → Outcome ta s w o x r q → Outcome tb s v y (bind x k) r q
+    → r ≡ Bad m → Outcome ta s w o x r q → Outcome tb s v y (onward x k) r q
 bad-on ta tb s w v o y k (good t l) r q m e g = let a = g .0 in let z : _≡_ {A = ℕ} 0 1 = cc in absurd (omega arith)
 bad-on ta tb s w v o y k (bad l) r q m e g = (g .0, tt)
 bad-on ta tb s w v o y k out r q m e g = g

@@ -12,10 +12,10 @@ use Rattle.octets.proofs.Places.{length-put, put-append, put-nil}
 use Rattle.condition.specs.Token.{Compare, Token, above, ands, atLeast, atMost, below, compares, equal, nots, number, ors, push, unequal}
 use Rattle.wording.proofs.Deep.{highest}
 use Rattle.wording.proofs.Emits.{up-yes}
-use Rattle.wording.specs.Grammar.{Condition, Factor, Operand, Term, and, compare, integer, last, name, not, only, or, paren, textC, textF, textO, textR, textT}
+use Rattle.wording.specs.Grammar.{Condition, Factor, Side, Term, and, compare, integer, last, name, not, only, or, paren, textC, textF, textS, textR, textT}
 use Rattle.wording.specs.Inner.Tokens.{tokensAnd, tokensC, tokensF, tokensOr, tokensT}
 use Rattle.wording.specs.Inner.Walk.{noteAll, noteB, putAll, putB, takes, upBy}
-use Rattle.wording.specs.Stored.{bytesAll, bytesOf, integerOf, laid, wide, wordOf}
+use Rattle.wording.specs.Stored.{bytesAll, tokenBytes, integerOf, operandOf, wide, wordFor}
 use Rattle.wording.specs.declared.tallies.Tally.{Tally}
 
 -- ---- the tally is exact below its bound
@@ -24,16 +24,16 @@ unfolding noteAll noteB
 tokens-exact [] w h = omega arith
 tokens-exact (t ∷ l) w h =
     let e = up-yes (w .tokens) 1 (omega arith) in
-    let g = tokens-exact l (noteB (length (bytesOf t)) (takes t) w) (omega arith) in
+    let g = tokens-exact l (noteB (length (tokenBytes t)) (takes t) w) (omega arith) in
     omega arith
 
 pub size-exact : (l : List Token) (w : Tally) → w .size + length (bytesAll l) < 100000 → noteAll l w .size ≡ w .size + length (bytesAll l)
 unfolding noteAll noteB bytesAll
 size-exact [] w h = omega arith
 size-exact (t ∷ l) w h =
-    let a = length-append (bytesOf t) (bytesAll l) in
-    let e = up-yes (w .size) (length (bytesOf t)) (omega arith) in
-    let g = size-exact l (noteB (length (bytesOf t)) (takes t) w) (omega arith) in
+    let a = length-append (tokenBytes t) (bytesAll l) in
+    let e = up-yes (w .size) (length (tokenBytes t)) (omega arith) in
+    let g = size-exact l (noteB (length (tokenBytes t)) (takes t) w) (omega arith) in
     omega arith
 
 pub highest-exact : (l : List Token) (w : Tally) → w .height + length l < 100000 → noteAll l w .highest ≡ highest (w .highest) (w .height) l
@@ -41,17 +41,17 @@ unfolding noteAll noteB highest
 highest-exact [] w h = refl
 highest-exact (t ∷ l) w h =
     let e : upBy (w .height - takes t) 1 ≡ w .height - takes t + 1 = sym (up-yes (w .height - takes t) 1 (omega arith)) in
-    highest-exact l (noteB (length (bytesOf t)) (takes t) w) (omega arith) ∙ rw e refl
+    highest-exact l (noteB (length (tokenBytes t)) (takes t) w) (omega arith) ∙ rw e refl
 
 pub put-exact : (l : List Token) (w : Tally) (o : List ℕ) → w .size + length (bytesAll l) ≤ length o → w .size + length (bytesAll l) < 100000
     → putAll l w o ≡ putAt (w .size) (bytesAll l) o
 unfolding putAll putB bytesAll noteB
 put-exact [] w o h g = sym (put-nil (w .size) o)
 put-exact (t ∷ l) w o h g =
-    let a = length-append (bytesOf t) (bytesAll l) in
+    let a = length-append (tokenBytes t) (bytesAll l) in
     let k = w .size in
-    let e : upBy k (length (bytesOf t)) ≡ k + length (bytesOf t) = sym (up-yes k (length (bytesOf t)) (omega arith)) in
-    let m : length (putAt k (bytesOf t) o) ≡ length o = length-put k (bytesOf t) o (omega arith) in
-    let i = put-exact l (noteB (length (bytesOf t)) (takes t) w) (putAt k (bytesOf t) o) (omega arith) (omega arith) in
-    rw (le-leb (k + length (bytesOf t)) (length o) (omega arith))
-    (i ∙ (ap (λ (n : ℕ). putAt n (bytesAll l) (putAt k (bytesOf t) o)) e ∙ put-append k (bytesOf t) (bytesAll l) o (omega arith)))
+    let e : upBy k (length (tokenBytes t)) ≡ k + length (tokenBytes t) = sym (up-yes k (length (tokenBytes t)) (omega arith)) in
+    let m : length (putAt k (tokenBytes t) o) ≡ length o = length-put k (tokenBytes t) o (omega arith) in
+    let i = put-exact l (noteB (length (tokenBytes t)) (takes t) w) (putAt k (tokenBytes t) o) (omega arith) (omega arith) in
+    rw (le-leb (k + length (tokenBytes t)) (length o) (omega arith))
+    (i ∙ (ap (λ (n : ℕ). putAt n (bytesAll l) (putAt k (tokenBytes t) o)) e ∙ put-append k (tokenBytes t) (bytesAll l) o (omega arith)))

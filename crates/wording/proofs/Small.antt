@@ -6,8 +6,8 @@ use Prim.Native.Nat.{ℕ, _+_, _*_, _≤_}
 use native.Mathlib.Omega.{arith}
 use lib.ListN.{length, length-append}
 use Rattle.condition.specs.Token.{Compare, equal, unequal, below, atMost, above, atLeast, Token, push, compares, ands, ors, nots}
-use Rattle.wording.specs.Grammar.{Operand, name, integer, Condition, last, or, Term, only, and, Factor, not, paren, compare, textO, textR, textC, textT, textF}
-use Rattle.wording.specs.Stored.{integerOf, wordOf, laid, bytesOf, bytesAll}
+use Rattle.wording.specs.Grammar.{Side, name, integer, Condition, last, or, Term, only, and, Factor, not, paren, compare, textS, textR, textC, textT, textF}
+use Rattle.wording.specs.Stored.{integerOf, wordFor, operandOf, tokenBytes, bytesAll}
 use Rattle.wording.specs.Inner.Tokens.{tokensC, tokensOr, tokensT, tokensAnd, tokensF}
 use Rattle.wording.proofs.Longs.{number-long, name-long, sign-long, and-long, or-long, not-long, bytes-append}
 
@@ -21,11 +21,11 @@ pub record Small (e : ℕ) (l : List Token) (t : List ℕ) : Type 0 where
   -- an operand has at most 9 bytes, and 2 for each of its text
   pub size : length (bytesAll l) ≤ 14 * comparisons + 2 * length t + 3 + e
 
-operand-small : (a : Operand) → (length (bytesOf (push (laid a))) ≤ 9 + 2 * length (textO a)) × (1 ≤ length (textO a))
-unfolding laid textO
+operand-small : (a : Side) → (length (tokenBytes (push (operandOf a))) ≤ 9 + 2 * length (textS a)) × (1 ≤ length (textS a))
+unfolding operandOf textS
 operand-small (name b n) = (omega (arith, name-long (b ∷ n)), omega arith)
-operand-small (integer true b n) = (omega (arith, number-long (wordOf (integerOf true b n))), omega arith)
-operand-small (integer false b n) = (omega (arith, number-long (wordOf (integerOf false b n))), omega arith)
+operand-small (integer true b n) = (omega (arith, number-long (wordFor (integerOf true b n))), omega arith)
+operand-small (integer false b n) = (omega (arith, number-long (wordFor (integerOf false b n))), omega arith)
 
 sign-some : (r : Compare) → 1 ≤ length (textR r)
 unfolding textR
@@ -40,11 +40,11 @@ sign-some atLeast = omega arith
 bytes-both : (l m : List Token) → length (bytesAll (l ++ m)) ≡ length (bytesAll l) + length (bytesAll m)
 bytes-both l m = ap length (bytes-append l m) ∙ length-append (bytesAll l) (bytesAll m)
 
-bytes-one : (t : Token) → length (bytesAll (t ∷ [])) ≡ length (bytesOf t)
+bytes-one : (t : Token) → length (bytesAll (t ∷ [])) ≡ length (tokenBytes t)
 unfolding bytesAll
-bytes-one t = omega (arith, length-append (bytesOf t) [])
+bytes-one t = omega (arith, length-append (tokenBytes t) [])
 
-small-op : (l : List Token) (t : List ℕ) (o : Token) → length (bytesOf o) ≡ 1 → Small 0 l t → Small 1 (l ++ (o ∷ [])) t
+small-op : (l : List Token) (t : List ℕ) (o : Token) → length (tokenBytes o) ≡ 1 → Small 0 l t → Small 1 (l ++ (o ∷ [])) t
 small-op l t o h a =
     let n = length-append l (o ∷ []) in
     let b = bytes-both l (o ∷ []) in
@@ -69,17 +69,17 @@ small-row e l m t u v a b h =
 row-length : (t : List ℕ) (x : ℕ) (u : List ℕ) → length (t ++ x ∷ x ∷ u) ≡ length t + (2 + length u)
 row-length t x u = let h = length-append t (x ∷ x ∷ u) in omega arith
 
-small-comparison : (a : Operand) (r : Compare) (b : Operand) → Small 0 (tokensF (compare a r b)) (textF (compare a r b))
+small-comparison : (a : Side) (r : Compare) (b : Side) → Small 0 (tokensF (compare a r b)) (textF (compare a r b))
 unfolding tokensC textF bytesAll
 small-comparison a r b =
     let x = operand-small a in
     let y = operand-small b in
     let z = sign-some r in
-    let p = length-append (textO a) (textR r ++ textO b) in
-    let q = length-append (textR r) (textO b) in
-    let u = length-append (bytesOf (push (laid a))) (bytesOf (push (laid b)) ++ (bytesOf (compares r) ++ [])) in
-    let v = length-append (bytesOf (push (laid b))) (bytesOf (compares r) ++ []) in
-    let w = length-append (bytesOf (compares r)) [] in
+    let p = length-append (textS a) (textR r ++ textS b) in
+    let q = length-append (textR r) (textS b) in
+    let u = length-append (tokenBytes (push (operandOf a))) (tokenBytes (push (operandOf b)) ++ (tokenBytes (compares r) ++ [])) in
+    let v = length-append (tokenBytes (push (operandOf b))) (tokenBytes (compares r) ++ []) in
+    let w = length-append (tokenBytes (compares r)) [] in
     let k = sign-long r in
     record { comparisons = 1; few = omega arith; many = omega arith; size = omega arith }
 

@@ -21,12 +21,12 @@ use Rattle.wording.specs.declared.Translated.{Translated}
 use Rattle.wording.specs.declared.Translated.the-variants.{Done, Refused}
 use Rattle.wording.specs.Grammar.{Condition, last, or, only, and, not, paren, ascii, textC, ValidC, InGrammar, Goes, Stops}
 use Rattle.wording.specs.Reader.{Reading, accepted, refused, reading}
-use Rattle.wording.specs.Stored.{laid, formulaC, tokensOf, deep, bytesAll, storedOf}
+use Rattle.wording.specs.Stored.{operandOf, formulaC, tokensOf, deep, bytesAll, storedOf}
 use Rattle.wording.specs.Meaning.{meansC}
-use Rattle.wording.specs.Translation.{storing, answerTo, translationOf, storedBy, laidOn, outAfter}
+use Rattle.wording.specs.Translation.{storing, answerBy, translationOf, storedBy, laidOn, outAfter}
 use Rattle.wording.proofs.Reading.{sound, complete, offset, refused-there}
 use Rattle.wording.proofs.Checked.{holdable, checked, alone, no-padding, stored-means}
-use Rattle.wording.proofs.Order.{operandsC, pushed, text-order, signs-and-bases}
+use Rattle.wording.proofs.Order.{sidesC, pushed, text-order, signs-and-bases}
 use Rattle.wording.proofs.Decides.{done-by}
 
 -- ---- (a) one reading: two trees of one text are the same (`one-reading`, in Reading), and the parser finds it exactly where there is one
@@ -38,10 +38,10 @@ finds s c = (sound s c, λ h. ap reading (h .0) ∙ complete c (h .1))
 
 -- in a text of at most 512 bytes 16 is told of k exactly where it leaves the grammar there
 pub sixteen : (s : List ℕ) (room k : ℕ) → length s ≤ 512 → (translationOf s room ≡ Refused 16 k) ↔ Stops s k
-unfolding translationOf need answerTo storing
+unfolding translationOf need answerBy storing
 sixteen s room k h = (λ e. to (reading s) refl (rw (le-leb (length s) 512 h) at e), λ g. rw (le-leb (length s) 512 h, refused-there s k g))
   where
-    to : (x : Reading) → reading s ≡ x → answerTo room x ≡ Refused 16 k → Stops s k
+    to : (x : Reading) → reading s ≡ x → answerBy room x ≡ Refused 16 k → Stops s k
     to (refused m) r e = offset s k (r ∙ ap refused (let v : m ≡ k = cc in v))
     to (accepted c) r e = absurd (by (leb (length (tokensOf c)) 64 && leb (deep (formulaC c)) 16) (leb (length (storedOf c)) room) e)
       where
@@ -86,7 +86,7 @@ pub record Translates (s o : List ℕ) (n k : ℕ) : Type 0 where
   -- under every table that is made so it evaluates to what the text means
   pub means : (table : List ℕ) → tableOk table ≡ true → evaluateOf (take n (outAfter s o)) table ≡ Said (meansC (attributesOf table) tree)
   -- its operands stand in the order of the text
-  pub in-order : pushed (tokensOf tree) ≡ map laid (operandsC tree)
+  pub in-order : pushed (tokensOf tree) ≡ map operandOf (sidesC tree)
   -- each number has sign byte 3 and base byte 2
   pub signs : (p : List Token) (w : ℕ) (q : List Token) → tokensOf tree ≡ p ++ (push (number w) ∷ q)
       → (getD (drop (4 + length (bytesAll p)) (take n (outAfter s o))) 0 0 ≡ 0x04)
@@ -131,7 +131,7 @@ means-the-same s o n k e =
 -- the answer to a text of the grammar
 stored-answer : (s : List ℕ) (room : ℕ) (c : Condition) → length s ≤ 512 → reading s ≡ accepted c
     → translationOf s room ≡ need (holdable c) (Refused 17 0) (need (leb (length (storedOf c)) room) (Refused 8 0) (Done (length (storedOf c)) (length (tokensOf c))))
-unfolding translationOf answerTo storing need
+unfolding translationOf answerBy storing need
 stored-answer s room c h r = rw (le-leb (length s) 512 h, r)
 
 -- 17 exactly where there are over 64 tokens or the stack stands deeper than 16; that is exactly where Five's check refuses the stored form; then 8, exactly

@@ -14,7 +14,7 @@ use Rattle.wording.specs.declared.Translated.the-variants.{Done, Refused
 use Rattle.wording.specs.Grammar.{Condition, textC}
 use Rattle.wording.specs.Reader.{Reading, accepted, refused, reading}
 use Rattle.wording.specs.Stored.{formulaC, tokensOf, deep, storedOf}
-use Rattle.wording.specs.Translation.{storing, answerTo, translationOf}
+use Rattle.wording.specs.Translation.{storing, answerBy, translationOf}
 use Rattle.wording.proofs.Flat.{tokens-flat}
 use Rattle.wording.proofs.Reading.{sound, offset}
 use Rattle.wording.proofs.Checked.{holdable}
@@ -45,14 +45,14 @@ storing-told room c h = by (holdable c) (leb (length (storedOf c)) room) refl
     by true true e = let s = stored-small c h e in (s .1, s .0)
 
 pub told : (s : List ℕ) (room : ℕ) → Told (translationOf s room)
-unfolding translationOf need answerTo
+unfolding translationOf need answerBy
 told s room = by (leb (length s) 512) refl
   where
-    on : (x : Reading) → reading s ≡ x → length s ≤ 512 → Told (answerTo room x)
+    on : (x : Reading) → reading s ≡ x → length s ≤ 512 → Told (answerBy room x)
     on (accepted c) r h = storing-told room c (omega (arith, ap length (sound s c r .0)))
     on (refused k) r h = omega (arith, offset s k r .inside)
 
-    by : (x : Bool) → leb (length s) 512 ≡ x → Told (need x (Refused 16 512) (answerTo room (reading s)))
+    by : (x : Bool) → leb (length s) 512 ≡ x → Told (need x (Refused 16 512) (answerBy room (reading s)))
     by true e = on (reading s) refl (leb-true (length s) 512 e)
     by false e = omega arith
 
@@ -64,10 +64,10 @@ told-refused s room k m e = subst Told (sym e) (told s room)
 
 -- 8 is never told where 1,255 bytes are lent
 pub room-enough : (s : List ℕ) (room : ℕ) → 1255 ≤ room → translationOf s room ≡ Refused 8 0 → ⊥
-unfolding translationOf need answerTo storing
+unfolding translationOf need answerBy storing
 room-enough s room l e = by (leb (length s) 512) refl e
   where
-    on : (x : Reading) → reading s ≡ x → length s ≤ 512 → answerTo room x ≡ Refused 8 0 → ⊥
+    on : (x : Reading) → reading s ≡ x → length s ≤ 512 → answerBy room x ≡ Refused 8 0 → ⊥
     on (refused k) r h e = let v : _≡_ {A = ℕ} 16 8 = cc in omega arith
     on (accepted c) r h e = at (holdable c) (leb (length (storedOf c)) room) refl refl e
       where
@@ -77,6 +77,6 @@ room-enough s room l e = by (leb (length s) 512) refl e
         at true false f g e = omega (arith, leb-false (length (storedOf c)) room g, stored-small c (omega (arith, ap length (sound s c r .0))) f .1)
         at true true f g e = let v : _≡_ {A = ℕ} 0 1 = cc in omega arith
 
-    by : (x : Bool) → leb (length s) 512 ≡ x → need x (Refused 16 512) (answerTo room (reading s)) ≡ Refused 8 0 → ⊥
+    by : (x : Bool) → leb (length s) 512 ≡ x → need x (Refused 16 512) (answerBy room (reading s)) ≡ Refused 8 0 → ⊥
     by true f e = on (reading s) refl (leb-true (length s) 512 f) e
     by false f e = let v : _≡_ {A = ℕ} 16 8 = cc in omega arith

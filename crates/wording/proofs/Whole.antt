@@ -8,33 +8,33 @@ use lib.Dec.{eqb}
 use borrow.Author.Tests.{eqb-false}
 use Rattle.wording.proofs.Keeps.{Ok, ok-after, ok-done, ok-pick, ok-stop, ok-then}
 use Rattle.wording.proofs.Parts.{goes-start, ok-comparison}
-use Rattle.wording.specs.Grammar.{Condition, Factor, Goes, ValidC, ValidF, ValidO, ValidT, all, and, last, not, only, or, paren, textC, textF, textO, textT}
-use Rattle.wording.specs.Reader.{Level, Res, Tree, after, andThen, branch, condition, done, factor, is, pick, read, readComparison, stop, term}
+use Rattle.wording.specs.Grammar.{Condition, Factor, Goes, ValidC, ValidF, ValidS, ValidT, all, and, last, not, only, or, paren, textC, textF, textS, textT}
+use Rattle.wording.specs.Reader.{Level, Res, TreeOf, expect, andThen, choose, condition, give, factor, is, pick, read, readComparison, stop, term}
 
-abbrev pub spell : (k : Level) → Tree k → List ℕ
+abbrev pub spell : (k : Level) → TreeOf k → List ℕ
 spell condition t = textC t
 spell term t = textT t
 spell factor t = textF t
 
-abbrev pub Valid : (k : Level) → ℕ → Tree k → Type 0
+abbrev pub Valid : (k : Level) → ℕ → TreeOf k → Type 0
 Valid condition d t = ValidC t d
 Valid term d t = ValidT t d
 Valid factor d t = ValidF t d
 
 -- ---- a row of parts joined by x twice: conditions of terms, terms of factors
 abbrev pub readRow : {I O : Type 0} → ℕ → (I → O) → (I → O → O) → (List ℕ → Res I) → (List ℕ → Res O) → List ℕ → Res O
-readRow x end more p q = andThen p (λ t. pick (is x) (after x (after x (andThen q (λ c. done (more t c))))) (done (end t)))
+readRow x end more p q = andThen p (λ t. pick (is x) (expect x (expect x (andThen q (λ c. give (more t c))))) (give (end t)))
 
 module _ {I O : Type 0} (x : ℕ) (end : I → O) (more : I → O → O) (p : List ℕ → Res I) (q : List ℕ → Res O)
-    (spellI : I → List ℕ) (textO : O → List ℕ) (ValidI : I → Type 0) (ValidO : O → Type 0)
+    (spellI : I → List ℕ) (textS : O → List ℕ) (ValidI : I → Type 0) (ValidS : O → Type 0)
     (z : eqb 0 x ≡ false)
-    (spell-end : (t : I) → spellI t ≡ textO (end t)) (spell-more : (t : I) (c : O) → spellI t ++ x ∷ x ∷ textO c ≡ textO (more t c))
-    (valid-end : (t : I) → ValidI t → ValidO (end t)) (valid-more : (t : I) (c : O) → ValidI t → ValidO c → ValidO (more t c))
+    (spell-end : (t : I) → spellI t ≡ textS (end t)) (spell-more : (t : I) (c : O) → spellI t ++ x ∷ x ∷ textS c ≡ textS (more t c))
+    (valid-end : (t : I) → ValidI t → ValidS (end t)) (valid-more : (t : I) (c : O) → ValidI t → ValidS c → ValidS (more t c))
     (start : Goes spellI ValidI []) where
-  row-goes : (t : I) → ValidI t → Goes textO ValidO (spellI t)
+  row-goes : (t : I) → ValidI t → Goes textS ValidS (spellI t)
   row-goes t v = record { rest = []; tree = end t; valid = valid-end t v; spelt = append-nil (spellI t) ∙ spell-end t }
 
-  row-goes-2 : (t : I) → ValidI t → Goes textO ValidO (spellI t ++ (x ∷ []))
+  row-goes-2 : (t : I) → ValidI t → Goes textS ValidS (spellI t ++ (x ∷ []))
   row-goes-2 t v =
       record {
         rest = x ∷ start .rest;
@@ -43,19 +43,19 @@ module _ {I O : Type 0} (x : ℕ) (end : I → O) (more : I → O → O) (p : Li
         spelt = append-assoc (spellI t) (x ∷ []) (x ∷ start .rest) ∙ (ap (λ (l : List ℕ). spellI t ++ x ∷ x ∷ l) (start .spelt ∙ spell-end (start .tree)) ∙ spell-more t (end (start .tree)));
       }
 
-  row-eq : (t : I) (c : O) → ((spellI t ++ (x ∷ [])) ++ (x ∷ [])) ++ textO c ≡ textO (more t c)
+  row-eq : (t : I) (c : O) → ((spellI t ++ (x ∷ [])) ++ (x ∷ [])) ++ textS c ≡ textS (more t c)
   row-eq t c = simp append-assoc (spell-more t c)
 
-  pub ok-row : (s : List ℕ) → Ok spellI ValidI [] p s → ((l : List ℕ) → Ok textO ValidO [] q l) → Ok textO ValidO [] (readRow x end more p q) s
+  pub ok-row : (s : List ℕ) → Ok spellI ValidI [] p s → ((l : List ℕ) → Ok textS ValidS [] q l) → Ok textS ValidS [] (readRow x end more p q) s
   ok-row s g h =
-      ok-then textO ValidO [] spellI ValidI p (λ t. pick (is x) (after x (after x (andThen q (λ c. done (more t c))))) (done (end t))) s g row-goes
-      (λ t l v. ok-pick textO ValidO (spellI t) (is x) (after x (after x (andThen q (λ c. done (more t c))))) (done (end t)) l
-      (ok-after textO ValidO (spellI t) x (after x (andThen q (λ c. done (more t c)))) l z (row-goes t v)
-      (λ m. ok-after textO ValidO (spellI t ++ (x ∷ [])) x (andThen q (λ c. done (more t c))) m z (row-goes-2 t v)
-      (λ n. ok-then textO ValidO ((spellI t ++ (x ∷ [])) ++ (x ∷ [])) textO ValidO q (λ c. done (more t c)) n (h n)
+      ok-then textS ValidS [] spellI ValidI p (λ t. pick (is x) (expect x (expect x (andThen q (λ c. give (more t c))))) (give (end t))) s g row-goes
+      (λ t l v. ok-pick textS ValidS (spellI t) (is x) (expect x (expect x (andThen q (λ c. give (more t c))))) (give (end t)) l
+      (ok-after textS ValidS (spellI t) x (expect x (andThen q (λ c. give (more t c)))) l z (row-goes t v)
+      (λ m. ok-after textS ValidS (spellI t ++ (x ∷ [])) x (andThen q (λ c. give (more t c))) m z (row-goes-2 t v)
+      (λ n. ok-then textS ValidS ((spellI t ++ (x ∷ [])) ++ (x ∷ [])) textS ValidS q (λ c. give (more t c)) n (h n)
       (λ c w. record { rest = []; tree = more t c; valid = valid-more t c v w; spelt = append-nil _ ∙ row-eq t c })
-      (λ c o w. ok-done textO ValidO _ (more t c) o (row-eq t c) (valid-more t c v w)))))
-      (ok-done textO ValidO (spellI t) (end t) l (spell-end t) (valid-end t v)))
+      (λ c o w. ok-done textS ValidS _ (more t c) o (row-eq t c) (valid-more t c v w)))))
+      (ok-done textS ValidS (spellI t) (end t) l (spell-end t) (valid-end t v)))
 
 pub goes-term : (d : ℕ) → Goes (spell term) (Valid term d) []
 unfolding textT ValidT
@@ -72,27 +72,27 @@ module _ (d : ℕ) where
   goes-not = let g = goes-start d in record { rest = g .rest; tree = not (g .tree); valid = g .valid; spelt = ap (λ (l : List ℕ). 33 ∷ l) (g .spelt) }
 
   ok-not : (p : List ℕ → Res Factor) → ((l : List ℕ) → Ok (spell factor) (Valid factor d) [] p l) → (s : List ℕ)
-      → Ok (spell factor) (Valid factor d) [] (after 33 (andThen p (λ x. done (not x)))) s
+      → Ok (spell factor) (Valid factor d) [] (expect 33 (andThen p (λ x. give (not x)))) s
   unfolding textF ValidF
   ok-not p h s =
-      ok-after (spell factor) (Valid factor d) [] 33 (andThen p (λ x. done (not x))) s refl (goes-start d)
-      (λ l. ok-then (spell factor) (Valid factor d) (33 ∷ []) (spell factor) (Valid factor d) p (λ x. done (not x)) l (h l)
+      ok-after (spell factor) (Valid factor d) [] 33 (andThen p (λ x. give (not x))) s refl (goes-start d)
+      (λ l. ok-then (spell factor) (Valid factor d) (33 ∷ []) (spell factor) (Valid factor d) p (λ x. give (not x)) l (h l)
       (λ x v. record { rest = []; tree = not x; valid = v; spelt = append-nil _ })
       (λ x m v. ok-done (spell factor) (Valid factor d) (33 ∷ textF x) (not x) m refl v))
 
   ok-paren : (p : List ℕ → Res Condition) → 0 < d → ((l : List ℕ) → Ok (spell condition) (Valid condition (d - 1)) [] p l) → (s : List ℕ)
-      → Ok (spell factor) (Valid factor d) [] (after 40 (andThen p (λ c. after 41 (done (paren c))))) s
+      → Ok (spell factor) (Valid factor d) [] (expect 40 (andThen p (λ c. expect 41 (give (paren c))))) s
   unfolding textF ValidF
   ok-paren p o h s =
-      ok-after (spell factor) (Valid factor d) [] 40 (andThen p (λ c. after 41 (done (paren c)))) s refl (goes-start d)
-      (λ l. ok-then (spell factor) (Valid factor d) (40 ∷ []) (spell condition) (Valid condition (d - 1)) p (λ c. after 41 (done (paren c))) l (h l)
+      ok-after (spell factor) (Valid factor d) [] 40 (andThen p (λ c. expect 41 (give (paren c)))) s refl (goes-start d)
+      (λ l. ok-then (spell factor) (Valid factor d) (40 ∷ []) (spell condition) (Valid condition (d - 1)) p (λ c. expect 41 (give (paren c))) l (h l)
       (λ c v. record { rest = 41 ∷ []; tree = paren c; valid = (o, v); spelt = refl })
-      (λ c m v. ok-after (spell factor) (Valid factor d) (40 ∷ textC c) 41 (done (paren c)) m refl
+      (λ c m v. ok-after (spell factor) (Valid factor d) (40 ∷ textC c) 41 (give (paren c)) m refl
       (record { rest = 41 ∷ []; tree = paren c; valid = (o, v); spelt = refl })
       (λ n. ok-done (spell factor) (Valid factor d) (40 ∷ (textC c ++ (41 ∷ []))) (paren c) n refl (o, v))))
 
   ok-open : (p : List ℕ → Res Condition) → ((l : List ℕ) → Ok (spell condition) (Valid condition (d - 1)) [] p l) → (s : List ℕ) (b : Bool) → eqb d 0 ≡ b
-      → Ok (spell factor) (Valid factor d) [] (branch b stop (after 40 (andThen p (λ c. after 41 (done (paren c)))))) s
+      → Ok (spell factor) (Valid factor d) [] (choose b stop (expect 40 (andThen p (λ c. expect 41 (give (paren c)))))) s
   ok-open p h s true e = ok-stop (spell factor) (Valid factor d) [] s (goes-start d)
   ok-open p h s false e = ok-paren p (let n = eqb-false d 0 e in omega arith) h s
 
@@ -107,6 +107,6 @@ ok-read (suc f) term d s =
     ok-row 38 only and (read f factor d) (read f term d) textF textT (Valid factor d) (Valid term d) refl (λ t. refl) (λ t c. refl) (λ t v. v) (λ t c v w. (v, w)) (goes-start d)
     s (ok-read f factor d s) (ok-read f term d)
 ok-read (suc f) factor d s =
-    ok-pick (spell factor) (Valid factor d) [] (is 33) (after 33 (andThen (read f factor d) (λ x. done (not x)))) _ s (ok-not d (read f factor d) (ok-read f factor d) s)
-    (ok-pick (spell factor) (Valid factor d) [] (is 40) (branch (eqb d 0) stop (after 40 (andThen (read f condition (d - 1)) (λ c. after 41 (done (paren c)))))) readComparison s
+    ok-pick (spell factor) (Valid factor d) [] (is 33) (expect 33 (andThen (read f factor d) (λ x. give (not x)))) _ s (ok-not d (read f factor d) (ok-read f factor d) s)
+    (ok-pick (spell factor) (Valid factor d) [] (is 40) (choose (eqb d 0) stop (expect 40 (andThen (read f condition (d - 1)) (λ c. expect 41 (give (paren c)))))) readComparison s
     (ok-open d (read f condition (d - 1)) (ok-read f condition (d - 1)) s (eqb d 0) refl) (ok-comparison d s))

@@ -14,14 +14,14 @@ use Rattle.condition.specs.Token.{Compare, equal, unequal, below, atMost, above
 -- ---- bytes
 
 -- from one character to another
-abbrev pub among : Char → Char → ℕ → Bool
-among a z b = leb (code a) b && leb b (code z)
+abbrev pub between : Char → Char → ℕ → Bool
+between a z b = leb (code a) b && leb b (code z)
 
 unfoldable pub digit : ℕ → Bool
-digit b = among "0" "9" b
+digit b = between "0" "9" b
 
 unfoldable pub letter : ℕ → Bool
-letter b = among "A" "Z" b || among "a" "z" b
+letter b = between "A" "Z" b || between "a" "z" b
 
 unfoldable pub alnum : ℕ → Bool
 alnum b = letter b || digit b
@@ -33,10 +33,10 @@ all t (b ∷ l) = t b && all t l
 
 -- ---- trees
 
--- a name, its first byte and the rest; or an integer: whether a minus stands before it, its first digit and the rest
-pub data Operand : Type 0 where
-  name : ℕ → List ℕ → Operand
-  integer : Bool → ℕ → List ℕ → Operand
+-- an operand: a name, its first byte and the rest; or an integer: whether a minus stands before it, its first digit and the rest
+pub data Side : Type 0 where
+  name : ℕ → List ℕ → Side
+  integer : Bool → ℕ → List ℕ → Side
 
 -- a condition is a row of terms, a term a row of factors; `last` and `only` end the row
 mutual
@@ -51,7 +51,7 @@ mutual
   pub data Factor : Type 0 where
     not : Factor → Factor
     paren : Condition → Factor
-    compare : Operand → Compare → Operand → Factor
+    compare : Side → Compare → Side → Factor
 
 -- ---- the text that each one is
 
@@ -60,10 +60,10 @@ abbrev pub ascii : String → List ℕ
 ascii String·[] = []
 ascii (c String·∷ s) = code c ∷ ascii s
 
-unfoldable pub textO : Operand → List ℕ
-textO (name b n) = b ∷ n
-textO (integer true b n) = ascii "-" ++ (b ∷ n)
-textO (integer false b n) = b ∷ n
+unfoldable pub textS : Side → List ℕ
+textS (name b n) = b ∷ n
+textS (integer true b n) = ascii "-" ++ (b ∷ n)
+textS (integer false b n) = b ∷ n
 
 unfoldable pub textR : Compare → List ℕ
 textR equal = ascii "=="
@@ -85,14 +85,17 @@ unfoldable mutual
   pub textF : Factor → List ℕ
   textF (not f) = ascii "!" ++ textF f
   textF (paren c) = ascii "(" ++ (textC c ++ ascii ")")
-  textF (compare a r b) = textO a ++ (textR r ++ textO b)
+  textF (compare a r b) = textS a ++ (textR r ++ textS b)
 
 -- ---- which trees are in the grammar
 
--- the number that digits make behind v
+-- the number of a digit, and the one that digits make behind v
+abbrev pub digitOf : ℕ → ℕ
+digitOf b = b - code "0"
+
 unfoldable pub val : ℕ → List ℕ → ℕ
 val v [] = v
-val v (b ∷ l) = val (v * 10 + (b - 48)) l
+val v (b ∷ l) = val (v * 10 + digitOf b) l
 
 -- the largest one of signed 64 bits: after a minus, and without one
 abbrev pub limit : Bool → ℕ
@@ -100,9 +103,9 @@ limit true = 9223372036854775808
 limit false = 9223372036854775807
 
 -- a name has a letter first, then letters and digits; an integer has digits and is in the range
-unfoldable pub ValidO : Operand → Type 0
-ValidO (name b n) = (letter b ≡ true) × (all alnum n ≡ true)
-ValidO (integer neg b n) = (digit b ≡ true) × (all digit n ≡ true) × (val (b - 48) n ≤ limit neg)
+unfoldable pub ValidS : Side → Type 0
+ValidS (name b n) = (letter b ≡ true) × (all alnum n ≡ true)
+ValidS (integer neg b n) = (digit b ≡ true) × (all digit n ≡ true) × (val (digitOf b) n ≤ limit neg)
 
 -- at most d parentheses are open at once
 unfoldable mutual
@@ -117,7 +120,7 @@ unfoldable mutual
   pub ValidF : Factor → ℕ → Type 0
   ValidF (not f) d = ValidF f d
   ValidF (paren c) d = (0 < d) × ValidC c (d - 1)
-  ValidF (compare a r b) d = ValidO a × ValidO b
+  ValidF (compare a r b) d = ValidS a × ValidS b
 
 abbrev pub InGrammar : Condition → Type 0
 InGrammar c = ValidC c 12

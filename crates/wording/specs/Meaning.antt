@@ -8,7 +8,7 @@ use Rattle.condition.specs.declared.truths.Truth.the-variants.{Unknown}
 use Rattle.condition.specs.Token.{Compare, signed}
 use Rattle.condition.specs.Table.{Attribute, valueIn}
 use Rattle.condition.specs.Meaning.{andOf, orOf, notOf, decided, compareOf}
-use Rattle.wording.specs.Grammar.{Operand, name, integer, Condition, last, or, Term, only, and, Factor, not, paren, compare}
+use Rattle.wording.specs.Grammar.{Side, name, integer, Condition, last, or, Term, only, and, Factor, not, paren, compare}
 use Rattle.wording.specs.Stored.{wide, integerOf}
 
 -- a missing name is unknown in a comparison
@@ -19,9 +19,9 @@ compared r (some a) (some b) = decided (compareOf r a b)
 
 module _ (table : List Attribute) where
   -- an operand's number; none of a name that the table lacks
-  unfoldable pub valueO : Operand → Option ℤ
-  valueO (name b n) = Option·map signed (valueIn table (wide (b ∷ n)))
-  valueO (integer neg b n) = some (integerOf neg b n)
+  unfoldable pub valueS : Side → Option ℤ
+  valueS (name b n) = Option·map signed (valueIn table (wide (b ∷ n)))
+  valueS (integer neg b n) = some (integerOf neg b n)
 
   unfoldable mutual
     pub meansC : Condition → Truth
@@ -45,4 +45,4 @@ module _ (table : List Attribute) where
     pub meansF : Factor → Truth
     meansF (not f) = notOf (meansF f)
     meansF (paren c) = meansC c
-    meansF (compare a r b) = compared r (valueO a) (valueO b)
+    meansF (compare a r b) = compared r (valueS a) (valueS b)

@@ -5,9 +5,9 @@ use mathlib.Core.List.{List, [], _∷_, _++_}
 use lib.IntN.{ℤ, pos, negsuc, negℤ}
 use lib.ListN.{length}
 use Rattle.octets.specs.Bytes.{spell}
-use Rattle.condition.specs.Token.{Compare, equal, unequal, below, atMost, above, atLeast, Operand as Laid, number, name as named, Token, push, compares, exists, ands, ors, nots}
+use Rattle.condition.specs.Token.{Compare, equal, unequal, below, atMost, above, atLeast, Operand, number, name as named, Token, push, compares, exists, ands, ors, nots}
 use Rattle.condition.specs.Tree.{Formula, comparison, existence, conjunction, disjunction, negation, spelt}
-use Rattle.wording.specs.Grammar.{val, Operand, name, integer, Condition, last, or, Term, only, and, Factor, not, paren, compare}
+use Rattle.wording.specs.Grammar.{digitOf, val, Side, name, integer, Condition, last, or, Term, only, and, Factor, not, paren, compare}
 
 -- ---- operands
 
@@ -22,16 +22,16 @@ numberOf true v = negℤ (pos v)
 numberOf false v = pos v
 
 abbrev pub integerOf : Bool → ℕ → List ℕ → ℤ
-integerOf neg b n = numberOf neg (val (b - 48) n)
+integerOf neg b n = numberOf neg (val (digitOf b) n)
 
 -- 64 bits, two's complement
-unfoldable pub wordOf : ℤ → ℕ
-wordOf (pos n) = n
-wordOf (negsuc n) = 0xFFFFFFFFFFFFFFFF - n
+unfoldable pub wordFor : ℤ → ℕ
+wordFor (pos n) = n
+wordFor (negsuc n) = 0xFFFFFFFFFFFFFFFF - n
 
-unfoldable pub laid : Operand → Laid
-laid (name b n) = named (wide (b ∷ n))
-laid (integer neg b n) = number (wordOf (integerOf neg b n))
+unfoldable pub operandOf : Side → Operand
+operandOf (name b n) = named (wide (b ∷ n))
+operandOf (integer neg b n) = number (wordFor (integerOf neg b n))
 
 -- ---- the formula: rows group to the left
 
@@ -57,7 +57,7 @@ unfoldable mutual
   pub formulaF : Factor → Formula
   formulaF (not f) = negation (formulaF f)
   formulaF (paren c) = formulaC c
-  formulaF (compare a r b) = comparison r (laid a) (laid b)
+  formulaF (compare a r b) = comparison r (operandOf a) (operandOf b)
 
 -- its tokens: operands and conditions in the order in which they stand, each operator after its operands
 abbrev pub tokensOf : Condition → List Token
@@ -82,18 +82,18 @@ codeOf above = 0x84
 codeOf atLeast = 0x85
 
 -- sign byte 3, base byte 2
-unfoldable pub bytesOf : Token → List ℕ
-bytesOf (push (number w)) = 0x04 ∷ (spell 8 w ++ 3 ∷ 2 ∷ [])
-bytesOf (push (named n)) = 0xF8 ∷ (spell 4 (length n) ++ n)
-bytesOf (compares r) = codeOf r ∷ []
-bytesOf exists = 0x87 ∷ []
-bytesOf ands = 0xA0 ∷ []
-bytesOf ors = 0xA1 ∷ []
-bytesOf nots = 0xA2 ∷ []
+unfoldable pub tokenBytes : Token → List ℕ
+tokenBytes (push (number w)) = 0x04 ∷ (spell 8 w ++ 3 ∷ 2 ∷ [])
+tokenBytes (push (named n)) = 0xF8 ∷ (spell 4 (length n) ++ n)
+tokenBytes (compares r) = codeOf r ∷ []
+tokenBytes exists = 0x87 ∷ []
+tokenBytes ands = 0xA0 ∷ []
+tokenBytes ors = 0xA1 ∷ []
+tokenBytes nots = 0xA2 ∷ []
 
 unfoldable pub bytesAll : List Token → List ℕ
 bytesAll [] = []
-bytesAll (t ∷ l) = bytesOf t ++ bytesAll l
+bytesAll (t ∷ l) = tokenBytes t ++ bytesAll l
 
 -- the four bytes at the front, then the tokens, without padding
 unfoldable pub storedOf : Condition → List ℕ

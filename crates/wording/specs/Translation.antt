@@ -19,13 +19,13 @@ storing room c =
     (need (leb (length (storedOf c)) room) (Refused 8 0)
     (Done (length (storedOf c)) (length (tokensOf c))))
 
-unfoldable pub answerTo : ℕ → Reading → Translated
-answerTo room (refused k) = Refused 16 k
-answerTo room (accepted c) = storing room c
+unfoldable pub answerBy : ℕ → Reading → Translated
+answerBy room (refused k) = Refused 16 k
+answerBy room (accepted c) = storing room c
 
 -- the answer where so many bytes are lent: 16, over 512 bytes, or where the text leaves the grammar
 unfoldable pub translationOf : List ℕ → ℕ → Translated
-translationOf s room = need (leb (length s) 512) (Refused 16 512) (answerTo room (reading s))
+translationOf s room = need (leb (length s) 512) (Refused 16 512) (answerBy room (reading s))
 
 -- the stored form of a text, nothing where it has none
 unfoldable pub storedBy : Reading → List ℕ

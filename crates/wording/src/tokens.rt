@@ -6,7 +6,7 @@ ghost use lib.ListN.{length};
 ghost use Rattle.octets.specs.Bytes.{putOn};
 ghost use Rattle.condition.specs.Token.{number, name as named, push};
 ghost use Rattle.wording.specs.Grammar.{limit};
-ghost use Rattle.wording.specs.Stored.{wide, numberOf, wordOf, bytesOf};
+ghost use Rattle.wording.specs.Stored.{wide, numberOf, wordFor, tokenBytes};
 ghost use Rattle.wording.specs.Inner.Walk.{noteB, putB, Joined};
 use crate::tallies::Tally;
 use crate::tallies::note;
@@ -50,7 +50,7 @@ pub(crate) fn join(out: &mut [u8], w: Tally, joined: bool, code: u8) -> Tally
 // 64 bits, two's complement.
 fn word_of(neg: bool, v: u64) -> u64
     requires { ⌜ v ≤ limit neg ⌝ }
-    ensures { λ r. ⌜ r ≡ wordOf (numberOf neg v) ⌝ }
+    ensures { λ r. ⌜ r ≡ wordFor (numberOf neg v) ⌝ }
 {
     if !neg {
         return v;
@@ -63,7 +63,7 @@ fn word_of(neg: bool, v: u64) -> u64
 
 // A number's token: its eight bytes, the lowest first, then sign byte 3 and base byte 2.
 fn number_bytes(m: u64) -> [u8; 11]
-    ensures { λ r. ⌜ r ≡ bytesOf (push (number m)) ⌝ }
+    ensures { λ r. ⌜ r ≡ tokenBytes (push (number m)) ⌝ }
 {
     let m1 = m / 256;
     let m2 = m1 / 256;
@@ -89,7 +89,7 @@ fn number_bytes(m: u64) -> [u8; 11]
 
 pub(crate) fn emit_number(out: &mut [u8], w: Tally, neg: bool, v: u64) -> Tally
     requires { ⌜ v ≤ limit neg ⌝ }
-    ensures { λ r. ⌜ (r ≡ noteB 11 0 w) × (now (out .exit) ≡ putB (bytesOf (push (number (wordOf (numberOf neg v))))) w (now (out .entry))) ⌝ }
+    ensures { λ r. ⌜ (r ≡ noteB 11 0 w) × (now (out .exit) ≡ putB (tokenBytes (push (number (wordFor (numberOf neg v))))) w (now (out .entry))) ⌝ }
 {
     let bytes = number_bytes(word_of(neg, v));
     lay(out, w, &bytes);
@@ -99,7 +99,7 @@ pub(crate) fn emit_number(out: &mut [u8], w: Tally, neg: bool, v: u64) -> Tally
 // A name's token on the front of `to`: its code, its length in bytes, then each byte and a 0 behind it.
 fn lay_name(to: &mut [u8], name: &[u8])
     requires { ⌜ (length (now name) ≤ 512) × (5 + 2 * length (now name) ≤ length (now to)) ⌝ }
-    ensures { λ _. ⌜ now (to .exit) ≡ putOn (bytesOf (push (named (wide (now (name .entry)))))) (now (to .entry)) ⌝ }
+    ensures { λ _. ⌜ now (to .exit) ≡ putOn (tokenBytes (push (named (wide (now (name .entry)))))) (now (to .entry)) ⌝ }
 {
     let m = 2 * name.len();
     to[0] = 0xF8;
@@ -119,7 +119,7 @@ fn lay_name(to: &mut [u8], name: &[u8])
 
 pub(crate) fn emit_name(out: &mut [u8], w: Tally, name: &[u8]) -> Tally
     requires { ⌜ (0 < length (now name)) × (length (now name) ≤ 512) ⌝ }
-    ensures { λ r. ⌜ (r ≡ noteB (5 + 2 * length (now (name .entry))) 0 w) × (now (out .exit) ≡ putB (bytesOf (push (named (wide (now (name .entry)))))) w (now (out .entry))) ⌝ }
+    ensures { λ r. ⌜ (r ≡ noteB (5 + 2 * length (now (name .entry))) 0 w) × (now (out .exit) ≡ putB (tokenBytes (push (named (wide (now (name .entry)))))) w (now (out .entry))) ⌝ }
 {
     let at = w.size;
     let n = 5 + 2 * name.len();

@@ -9,7 +9,7 @@ use Rattle.wording.specs.declared.operands.Found.{Found}
 use Rattle.wording.specs.declared.operands.Found.the-variants.{Name, Number, Wrong}
 use Rattle.wording.specs.declared.signs.Sign.{Sign}
 use Rattle.wording.specs.declared.signs.Sign.the-variants.{Is, Not}
-use Rattle.wording.specs.Grammar.{digit, letter, val, Operand, name, integer}
+use Rattle.wording.specs.Grammar.{digit, letter, digitOf, val, Side, name, integer}
 use Rattle.wording.specs.Reader.{Res, good, bad, out, readRest}
 use Rattle.wording.specs.Stored.{codeOf}
 
@@ -34,9 +34,9 @@ digitsFound len neg v (good n l) = Number neg (val v n) (len - length l)
 digitsFound len neg v (bad l) = Wrong (len - length l)
 digitsFound len neg v out = Wrong 0
 
-abbrev pub foundOf : ℕ → Res Operand → Found
+abbrev pub foundOf : ℕ → Res Side → Found
 foundOf len (good (name b n) l) = Name (len - length l)
-foundOf len (good (integer neg b n) l) = Number neg (val (b - 48) n) (len - length l)
+foundOf len (good (integer neg b n) l) = Number neg (val (digitOf b) n) (len - length l)
 foundOf len (bad l) = Wrong (len - length l)
 foundOf len out = Wrong 0
 

@@ -2,12 +2,12 @@
 use mathlib.Core.List.{List, [], _∷_, _++_}
 use mathlib.Core.Bool.{Bool, true, false}
 use Rattle.condition.specs.Token.{Token, push, compares, ands, ors, nots}
-use Rattle.wording.specs.Grammar.{Operand, Condition, last, or, Term, only, and, Factor, not, paren, compare}
-use Rattle.wording.specs.Reader.{Level, condition, term, factor, Tree}
-use Rattle.wording.specs.Stored.{laid}
+use Rattle.wording.specs.Grammar.{Side, Condition, last, or, Term, only, and, Factor, not, paren, compare}
+use Rattle.wording.specs.Reader.{Level, condition, term, factor, TreeOf}
+use Rattle.wording.specs.Stored.{operandOf}
 
-abbrev pub tokensO : Operand → List Token
-tokensO a = push (laid a) ∷ []
+abbrev pub tokensS : Side → List Token
+tokensS a = push (operandOf a) ∷ []
 
 unfoldable mutual
   pub tokensC : Condition → List Token
@@ -31,10 +31,10 @@ unfoldable mutual
   pub tokensF : Factor → List Token
   tokensF (not f) = tokensF f ++ (nots ∷ [])
   tokensF (paren c) = tokensC c
-  tokensF (compare a r b) = push (laid a) ∷ push (laid b) ∷ compares r ∷ []
+  tokensF (compare a r b) = push (operandOf a) ∷ push (operandOf b) ∷ compares r ∷ []
 
 -- of a tree of each level; `joined` where it stands behind the operator of its row
-abbrev pub toks : (k : Level) → Bool → Tree k → List Token
+abbrev pub toks : (k : Level) → Bool → TreeOf k → List Token
 toks condition false t = tokensC t
 toks condition true t = tokensOr t
 toks term false t = tokensT t

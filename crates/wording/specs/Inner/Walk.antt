@@ -16,9 +16,9 @@ use Rattle.wording.specs.declared.signs.Sign.the-variants.{Is, Not}
 use Rattle.wording.specs.declared.Translated.{Translated}
 use Rattle.wording.specs.declared.Translated.the-variants.{Done, Refused}
 use Rattle.wording.specs.Grammar.{Condition}
-use Rattle.wording.specs.Reader.{Res, good, bad, out, readOperand, readComparison, Level, condition, term, factor, Tree, read, accepted, reading}
-use Rattle.wording.specs.Stored.{bytesOf}
-use Rattle.wording.specs.Inner.Tokens.{tokensO, tokensC, tokensF, toks}
+use Rattle.wording.specs.Reader.{Res, good, bad, out, readOperand, readComparison, Level, condition, term, factor, TreeOf, read, accepted, reading}
+use Rattle.wording.specs.Stored.{tokenBytes}
+use Rattle.wording.specs.Inner.Tokens.{tokensS, tokensC, tokensF, toks}
 
 -- ---- the tally
 
@@ -47,7 +47,7 @@ takes nots = 1
 
 unfoldable pub noteAll : List Token → Tally → Tally
 noteAll [] w = w
-noteAll (t ∷ l) w = noteAll l (noteB (length (bytesOf t)) (takes t) w)
+noteAll (t ∷ l) w = noteAll l (noteB (length (tokenBytes t)) (takes t) w)
 
 -- the four bytes at the front are counted first
 abbrev pub tally0 : Tally
@@ -61,7 +61,7 @@ putB b w o = cond (leb (w .size + length b) (length o)) (putAt (w .size) b o) o
 
 unfoldable pub putAll : List Token → Tally → List ℕ → List ℕ
 putAll [] w o = o
-putAll (t ∷ l) w o = putAll l (noteB (length (bytesOf t)) (takes t) w) (putB (bytesOf t) w o)
+putAll (t ∷ l) w o = putAll l (noteB (length (tokenBytes t)) (takes t) w) (putB (tokenBytes t) w o)
 
 -- ---- what each part of the walk ensures
 
@@ -88,7 +88,7 @@ pub record ComparedAt (s : List ℕ) (at : ℕ) (w : Tally) (o : List ℕ) (r : 
   pub is : Outcome tokensF s w o (readComparison (drop at s)) r q
 
 pub record OperandAt (s : List ℕ) (at : ℕ) (w : Tally) (o : List ℕ) (r : Walked) (q : List ℕ) : Type 0 where
-  pub is : Outcome tokensO s w o (readOperand (drop at s)) r q
+  pub is : Outcome tokensS s w o (readOperand (drop at s)) r q
 
 abbrev pub wrongOf : Sign → Walked
 wrongOf (Is c p) = Bad p

@@ -7,7 +7,7 @@ use native.Mathlib.Omega.{arith}
 use borrow.Author.Needs.{needs}
 use Rattle.wording.specs.Reader.{condition, term, factor}
 use Rattle.wording.specs.Inner.Walk.{stepsAt}
-use Rattle.wording.proofs.Cycle.{placed, cond-bad, cond-ends, cond-half, cond-goes, term-bad, term-ends, term-half, term-goes}
+use Rattle.wording.proofs.Cycle.{placed, condition-bad, condition-ends, condition-half, condition-goes, term-bad, term-ends, term-half, term-goes}
 use Rattle.wording.proofs.Cycle.{factor-not-bad, factor-not, factor-compare, factor-deep, factor-bad, factor-shut, factor-left}
 use Prim.Native.Nat.{ℕ, _<_}
 use borrow.Fn.Kinds.{In}
@@ -131,7 +131,7 @@ read-condition-returns t c =
     let at-args = at-read-term .before .before .before .before in
     let a = at-args .args in
     let s = now (a .s) in
-    cond-bad s (a .at) (a .depth) (at-args .pre .1 .0) (a .joined) (a .w) (now (a .out)) _ _ (at-read-term .read-term .ensures) _ (c .enum-told .given .1)
+    condition-bad s (a .at) (a .depth) (at-args .pre .1 .0) (a .joined) (a .w) (now (a .out)) _ _ (at-read-term .read-term .ensures) _ (c .enum-told .given .1)
 
 read-condition-join-requires : (t : ℕ) → read-condition-lts.Need-join-requires (
   read-term-below t,
@@ -187,7 +187,7 @@ read-condition-returns-2 t c =
     let at-args = at-read-term .before .before .before .before in
     let a = at-args .args in
     let s = now (a .s) in
-    cond-ends s (a .at) (a .depth) (at-args .pre .1 .0) (a .joined) (a .w) (now (a .out)) _ _ (at-read-term .read-term .ensures)
+    condition-ends s (a .at) (a .depth) (at-args .pre .1 .0) (a .joined) (a .w) (now (a .out)) _ _ (at-read-term .read-term .ensures)
     _ _ (at-t .t .given .1) _ _ (at-join .join .ensures)
     (sym (at-byte-is .byte-is .ensures .is) ∙ not-true _ (c .if1 .taken))
 
@@ -261,7 +261,7 @@ read-condition-returns-3 t c =
     let at-args = at-read-term .before .before .before .before in
     let a = at-args .args in
     let s = now (a .s) in
-    cond-half s (a .at) (a .depth) (at-args .pre .1 .0) (a .joined) (a .w) (now (a .out)) _ _ (at-read-term .read-term .ensures)
+    condition-half s (a .at) (a .depth) (at-args .pre .1 .0) (a .joined) (a .w) (now (a .out)) _ _ (at-read-term .read-term .ensures)
     _ _ (at-t .t .given .1) _ _ (at-join .join .ensures)
     (sym (at-byte-is .byte-is .ensures .is) ∙ not-false _ (at-if1 .if1 .left)) (at-byte-is .byte-is .ensures .inside (not-false _ (at-if1 .if1 .left)))
     (sym (at-byte-is2 .byte-is2 .ensures .is) ∙ not-true _ (c .if2 .taken))
@@ -335,7 +335,7 @@ read-condition-returns-4 t c =
     let at-args = at-read-term .before .before .before .before in
     let a = at-args .args in
     let s = now (a .s) in
-    cond-goes s (a .at) (a .depth) (at-args .pre .1 .0) (a .joined) (a .w) (now (a .out)) _ _ (at-read-term .read-term .ensures)
+    condition-goes s (a .at) (a .depth) (at-args .pre .1 .0) (a .joined) (a .w) (now (a .out)) _ _ (at-read-term .read-term .ensures)
     _ _ (at-t .t .given .1) _ _ (at-join .join .ensures)
     (sym (at-byte-is .byte-is .ensures .is) ∙ not-false _ (at-if1 .if1 .left)) (at-byte-is .byte-is .ensures .inside (not-false _ (at-if1 .if1 .left)))
     (sym (at-byte-is2 .byte-is2 .ensures .is) ∙ not-false _ (at-if2 .if2 .left)) (at-byte-is2 .byte-is2 .ensures .inside (not-false _ (at-if2 .if2 .left)))

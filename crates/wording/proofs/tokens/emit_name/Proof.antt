@@ -3,7 +3,7 @@ use borrow.Author.Needs.{needs}
 use native.Mathlib.Omega.{arith}
 use denote.Ref.{now}
 use Rattle.condition.specs.Token.{name as named, push}
-use Rattle.wording.specs.Stored.{wide, bytesOf}
+use Rattle.wording.specs.Stored.{wide, tokenBytes}
 use Rattle.wording.proofs.Longs.{name-long}
 use Rattle.wording.proofs.Laid.{no-room, fits}
 use Rattle.wording.proofs.tokens.emit_name.Statement.{statement}
@@ -21,7 +21,7 @@ note-requires c κs = search needs
 returns : tie.Need-returns
 returns c =
     let a = c .before .before .before .before .args in
-    (c .note .ensures, no-room (bytesOf (push (named (wide (now (a .name)))))) (a .w) (now (a .out)) (omega (arith, name-long (now (a .name)))))
+    (c .note .ensures, no-room (tokenBytes (push (named (wide (now (a .name)))))) (a .w) (now (a .out)) (omega (arith, name-long (now (a .name)))))
 
 sub-if2 : tie.Need-sub-if2
 sub-if2 c = search needs
@@ -32,7 +32,7 @@ note-requires-2 c κs = search needs
 returns-2 : tie.Need-returns-2
 returns-2 c =
     let a = c .before .before .before .before .before .args in
-    (c .note2 .ensures, no-room (bytesOf (push (named (wide (now (a .name)))))) (a .w) (now (a .out)) (omega (arith, name-long (now (a .name)))))
+    (c .note2 .ensures, no-room (tokenBytes (push (named (wide (now (a .name)))))) (a .w) (now (a .out)) (omega (arith, name-long (now (a .name)))))
 
 sub-lay-name : tie.Need-sub-lay-name
 sub-lay-name c = search needs
@@ -57,7 +57,7 @@ returns-3 c =
     let c1 = c .before .before .before in
     let c2 = c1 .before .before .before .before .before .before in
     let a = c2 .args in
-    (c .note3 .ensures, fits (bytesOf (push (named (wide (now (a .name)))))) (a .w) (now (a .out)) _ (omega (arith, name-long (now (a .name)))) (c1 .lay-name .ensures))
+    (c .note3 .ensures, fits (tokenBytes (push (named (wide (now (a .name)))))) (a .w) (now (a .out)) _ (omega (arith, name-long (now (a .name)))) (c1 .lay-name .ensures))
 
 pub emit-name-spec : {M : Type 1} → statement M
 emit-name-spec =

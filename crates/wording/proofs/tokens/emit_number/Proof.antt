@@ -5,7 +5,7 @@ use mathlib.Core.Path.{ap, _∙_}
 use Prim.Native.Nat.{ℕ}
 use denote.Ref.{now}
 use Rattle.condition.specs.Token.{number, push}
-use Rattle.wording.specs.Stored.{bytesOf}
+use Rattle.wording.specs.Stored.{tokenBytes}
 use Rattle.wording.specs.Inner.Walk.{putB}
 use Rattle.wording.proofs.tokens.emit_number.Statement.{statement}
 use Rattle.wording.proofs.tokens.emit_number.Tie as tie
@@ -35,7 +35,7 @@ returns c =
     let c3 = c2 .before in
     let c4 = c3 .before .before in
     let a = c4 .args in
-    let e = c2 .number-bytes .ensures ∙ ap (λ (m : ℕ). bytesOf (push (number m))) (c3 .word-of .ensures) in
+    let e = c2 .number-bytes .ensures ∙ ap (λ (m : ℕ). tokenBytes (push (number m))) (c3 .word-of .ensures) in
     (c .note .ensures, c1 .lay .ensures ∙ ap (λ (b : List ℕ). putB b (a .w) (now (a .out))) e)
 
 pub emit-number-spec : {M : Type 1} → statement M

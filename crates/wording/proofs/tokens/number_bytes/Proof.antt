@@ -2,7 +2,7 @@
 use borrow.Author.Needs.{needs}
 use mathlib.Core.Path.{refl}
 use Rattle.octets.specs.Bytes.{spell}
-use Rattle.wording.specs.Stored.{bytesOf}
+use Rattle.wording.specs.Stored.{tokenBytes}
 use Rattle.wording.proofs.tokens.number_bytes.Statement.{statement}
 use Rattle.wording.proofs.tokens.number_bytes.Tie as tie
 
@@ -31,7 +31,7 @@ cast-t24 : tie.Need-cast-t24
 cast-t24 c = search needs
 
 returns : tie.Need-returns
-unfolding bytesOf spell
+unfolding tokenBytes spell
 returns c = refl
 
 pub number-bytes-spec : {M : Type 1} → statement M
