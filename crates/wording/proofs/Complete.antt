@@ -12,7 +12,7 @@ use Rattle.condition.specs.Token.{Compare, above, atLeast, atMost, below, equal
 use Rattle.wording.proofs.Parts.{clash, digit-range, digits-no, digits-yes, rest-no, rest-yes}
 use Rattle.wording.proofs.Whole.{Valid, readRow, spell}
 use Rattle.wording.specs.Grammar.{Condition, Factor, Side, Term, ValidC, ValidF, ValidS, ValidT, all, alnum, and, compare, digit, integer, last, letter, limit, name, not, only, or, paren, textC, textF, textS, textR, textT, val}
-use Rattle.wording.specs.Reader.{Level, Res, TreeOf, expect, andThen, bad, onward, bound, choose, condition, give, factor, good, head0, is, one, out, pick, read, readComparison, readDigits, readNumber, readOperand, readRest, readSign, stop, term}
+use Rattle.wording.specs.Reader.{Level, Res, TreeOf, expect, andThen, bad, onward, choose, condition, give, factor, good, head0, is, one, out, pick, read, readComparison, readDigits, readNumber, readOperand, readRest, readSign, stop, term}
 
 -- x is y, unless the bound on steps was too small
 pub data Gives {A : Type 0} (x y : Res A) : Type 0 where
@@ -24,6 +24,7 @@ pub gives-then : {A B : Type 0} (p : List ℕ → Res A) (k : A → List ℕ →
 gives-then {A} {B} p k s a r y (same e) g = subst (λ (x : Res A). Gives (onward x k) y) (sym e) g
 gives-then {A} {B} p k s a r y (short e) g = short (ap (λ (x : Res A). onward x k) e)
 
+-- a reader by the next byte, of one byte, and one after another
 pick-yes : {A : Type 0} (t : ℕ → Bool) (p q : List ℕ → Res A) (s : List ℕ) → t (head0 s) ≡ true → pick t p q s ≡ p s
 pick-yes t p q s e = ap (λ (b : Bool). choose b p q s) e
 
@@ -37,6 +38,7 @@ then-is : {A B : Type 0} (p : List ℕ → Res A) (k : A → List ℕ → Res B)
 then-is {A} p k s a r e = ap (λ (x : Res A). onward x k) e
 
 -- ---- names and numbers
+
 rest-complete : (n r : List ℕ) → all alnum n ≡ true → alnum (head0 r) ≡ false → readRest (n ++ r) ≡ good n r
 unfolding all
 rest-complete [] r v e = rest-no r e
@@ -44,6 +46,7 @@ rest-complete (b ∷ n) r v e =
     let h = both-true (alnum b) (all alnum n) v in
     rest-yes b (n ++ r) (h .0) ∙ ap (λ x. onward x (λ m l. good (b ∷ m) l)) (rest-complete n r (h .1) e)
 
+-- more digits make no smaller number
 val-le : (n : List ℕ) (v : ℕ) → v ≤ val v n
 unfolding val
 val-le [] v = omega arith
@@ -64,6 +67,7 @@ number-complete neg b n r v e =
     one-is digit (λ b. andThen (readDigits neg (b - 48)) (λ n. give (integer neg b n))) b (n ++ r) (v .0)
     ∙ then-is (readDigits neg (b - 48)) (λ n. give (integer neg b n)) (n ++ r) n r (digits-complete neg n r (b - 48) (v .1) (v .2) e)
 
+-- letters, digits and other bytes are apart
 either-false : (a b : Bool) → (a || b) ≡ false → (a ≡ false) × (b ≡ false)
 either-false true b e = absurd (clash (sym e))
 either-false false b e = (refl, e)
@@ -108,6 +112,7 @@ operand-complete (integer false b n) r v e =
     ∙ number-complete false b n r v (alnum-digit (head0 r) e))
 
 -- ---- comparisons
+
 pub sign-complete : (c : Compare) (r : List ℕ) → eqb (head0 r) 61 ≡ false → readSign (textR c ++ r) ≡ good c r
 unfolding readSign textR
 sign-complete equal r e = refl
@@ -149,6 +154,7 @@ comparison-complete a c b r v w e =
     ∙ then-is readOperand (λ b. give (compare a c b)) _ b r (operand-complete b r w e))
 
 -- ---- rows
+
 -- the bytes that end a part of each kind
 abbrev pub Ends : Level → ℕ → Type 0
 Ends factor h = alnum h ≡ false
@@ -172,6 +178,8 @@ module _ {I O : Type 0} (x : ℕ) (end : I → O) (more : I → O → O) (p : Li
       (gives-then q (λ c. give (more t c)) l c r (good (more t c) r) h (same refl)))
 
 -- ---- all three
+
+-- the bytes that end a part
 alnum-bar : alnum 124 ≡ false
 unfolding alnum letter digit
 alnum-bar = refl
@@ -218,6 +226,7 @@ module _ (f : ℕ) (less : Full f) (d : ℕ) where
       ∙ (pick-no (is 40) _ readComparison (textS a ++ (textR o ++ (textS b ++ r))) (operand-head a _ (v .0) 40 (omega arith))
       ∙ comparison-complete a o b r (v .0) (v .1) e)))
 
+-- for every bound
 pub full : (f : ℕ) → Full f
 unfolding read
 full zero k d t r v e = short refl

@@ -5,32 +5,32 @@ use mathlib.Core.List.{List, [], _∷_, _++_, append-nil}
 use Prim.Native.Nat.{ℕ, zero, suc, _+_, _-_, _≤_, _<_}
 use native.Mathlib.Omega.{arith}
 use lib.Dec.{eqb}
-use lib.ListN.{length, length-append, drop, length-drop}
-use lib.Seq.{drop-drop, drop-at}
-use Rattle.condition.specs.Token.{Token, above, ands, nots, ors}
+use lib.ListN.{length, drop}
+use Rattle.condition.specs.Token.{Token, ands, nots, ors}
 use Rattle.wording.specs.declared.conditions.Walked.{Walked}
 use Rattle.wording.specs.declared.conditions.Walked.the-variants.{At, Bad}
 use Rattle.wording.proofs.Emits.{note-append, put-append}
-use Rattle.wording.proofs.Keeps.{OkOf, Read}
-use Rattle.wording.proofs.Places.{after-no, after-yes, back, bad-on, head-at, not-here, pick-is}
-use Rattle.wording.proofs.Reading.{says}
+use Rattle.wording.proofs.Keeps.{OkOf}
+use Rattle.wording.proofs.Places.{expect-no, expect-yes, back, bad-on, head-at, not-here, pick-is}
+use Rattle.wording.proofs.Taken.{suffix-of}
 use Rattle.wording.proofs.Whole.{Valid, ok-read, readRow, spell}
 use Rattle.wording.specs.Grammar.{Condition, Factor, Term, and, last, not, only, or, paren}
 use Rattle.wording.specs.Inner.Tokens.{tokensAnd, tokensC, tokensF, tokensOr, tokensT, toks}
 use Rattle.wording.specs.Inner.Walk.{ComparedAt, Joined, Outcome, ParsedAt, isAt, noteAll, noteB, noteIf, putAll, putB, putIf, rank, stepsAt, takes}
-use Rattle.wording.specs.Reader.{Level, Res, TreeOf, expect, andThen, bad, onward, choose, condition, give, endOf, factor, good, is, out, pick, read, readComparison, stop, term}
+use Rattle.wording.specs.Reader.{Level, Res, TreeOf, expect, andThen, bad, onward, choose, condition, give, factor, good, is, out, pick, read, readComparison, stop, term}
 use Rattle.wording.specs.Stored.{tokenBytes}
 use Rattle.wording.specs.declared.tallies.Tally.{Tally}
 
+-- what is left behind a tree is the text from its place on
 suffix : (s : List ℕ) (f : ℕ) (k : Level) (d at : ℕ) (t : TreeOf k) (l : List ℕ) → at ≤ length s → read f k d (drop at s) ≡ good t l
     → (at ≤ length s - length l) × (l ≡ drop (length s - length l) s)
 suffix s f k d at t l h e =
-    let g : Read (spell k) (Valid k d) [] (read f k d) (drop at s) t l = subst (λ (x : Res (TreeOf k)). OkOf (spell k) (Valid k d) [] (read f k d) (drop at s) x) e (ok-read f k d (drop at s)) in
-    let m : length s - at ≡ length (g .part) + length l = sym (length-drop at s) ∙ (ap length (g .text) ∙ length-append (g .part) l) in
-    let n : at + length (g .part) ≡ length s - length l = omega arith in
-    (omega arith, sym (drop-at (g .part) l (length (g .part)) refl) ∙ (ap (drop (length (g .part))) (sym (g .text)) ∙ (drop-drop (length (g .part)) at s ∙ ap (λ (y : ℕ). drop y s) n)))
+    suffix-of (spell k) (Valid k d) (read f k d) s at t l h
+    (subst (λ (x : Res (TreeOf k)). OkOf (spell k) (Valid k d) [] (read f k d) (drop at s) x) e (ok-read f k d (drop at s)))
 
--- ---- what an endOf says of the reader
+-- ---- what an answer says of the reader
+
+-- the tree that was read up to p, and what it left of tally and bytes
 pub record Took (f : ℕ) (k : Level) (j : Bool) (s : List ℕ) (at d : ℕ) (w : Tally) (o : List ℕ) (p : ℕ) (w1 : Tally) (o1 : List ℕ) : Type 0 where
   pub tree : TreeOf k
   pub reads : read f k d (drop at s) ≡ good tree (drop p s)
@@ -53,6 +53,7 @@ took f k j s at d w o r q p w1 h m = by (read f k d (drop at s)) refl
     by (bad l) e g = let a = g .0 in let z : _≡_ {A = ℕ} 0 1 = cc in absurd (omega arith)
     by out e g = absurd g
 
+-- a walk goes forward, and not past the end
 pub placed : (k : Level) (j : Bool) (s : List ℕ) (at d : ℕ) (w : Tally) (o : List ℕ) (r : Walked) (q : List ℕ) (p : ℕ) (w1 : Tally)
     → at ≤ length s → r ≡ At p w1 → ParsedAt k j s at d w o r q → (at ≤ p) × (p ≤ length s)
 placed k j s at d w o r q p w1 h m g =
@@ -60,13 +61,15 @@ placed k j s at d w o r q p w1 h m g =
     (t .low, t .top)
 
 -- ---- rows
+
+-- the operator behind a part that is joined to another
 abbrev opIf : Bool → Token → List Token
 opIf true t = t ∷ []
 opIf false t = []
 
 module _ (O I : Level) (x code : ℕ) (tok : Token) (end : TreeOf I → TreeOf O) (more : TreeOf I → TreeOf O → TreeOf O) (z : eqb x x ≡ true)
     (link : (f d : ℕ) (l : List ℕ) → read (suc f) O d l ≡ readRow x end more (read f I d) (read f O d) l)
-    (above : rank O ≡ rank I + 1)
+    (higher : rank O ≡ rank I + 1)
     (toks-end : (j : Bool) (t : TreeOf I) → toks O j (end t) ≡ toks I false t ++ opIf j tok)
     (toks-more : (j : Bool) (t : TreeOf I) (c : TreeOf O) → toks O j (more t c) ≡ toks I false t ++ (opIf j tok ++ toks O true c))
     (note-op : (j : Bool) (w : Tally) → noteAll (opIf j tok) w ≡ noteIf j w)
@@ -75,6 +78,7 @@ module _ (O I : Level) (x code : ℕ) (tok : Token) (end : TreeOf I → TreeOf O
   abbrev tail : ℕ → TreeOf I → List ℕ → Res (TreeOf O)
   tail f t = pick (is x) (expect x (expect x (andThen (read f O d) (λ c. give (more t c))))) (give (end t))
 
+  -- its first part goes wrong
   bad-is : (m : ℕ) → r1 ≡ Bad m → (f : ℕ) → stepsAt O s at < f → Outcome (toks O j) s w o (read f O d (drop at s)) r1 o1
   bad-is m e zero g = absurd (omega arith)
   bad-is m e (suc f) g =
@@ -96,6 +100,7 @@ module _ (O I : Level) (x code : ℕ) (tok : Token) (end : TreeOf I → TreeOf O
     bytes-2 : (t : TreeOf I) → w1 ≡ noteAll (toks I false t) w → o1 ≡ putAll (toks I false t) w o → o2 ≡ putAll (opIf j tok) (noteAll (toks I false t) w) (putAll (toks I false t) w o)
     bytes-2 t q u = jn .bytes ∙ (sym (put-op j w1 o1) ∙ (ap (λ (y : Tally). putAll (opIf j tok) y o1) q ∙ ap (putAll (opIf j tok) (noteAll (toks I false t) w)) u))
 
+    -- the row ends behind it
     end-is : isAt s p x ≡ false → (f : ℕ) → stepsAt O s at < f → Outcome (toks O j) s w o (read f O d (drop at s)) (At p w2) o2
     end-is b zero g = absurd (omega arith)
     end-is b (suc f) g =
@@ -113,14 +118,15 @@ module _ (O I : Level) (x code : ℕ) (tok : Token) (end : TreeOf I → TreeOf O
       tail-is : (f : ℕ) (t : TreeOf I) → tail f t (drop p s) ≡ expect x (andThen (read f O d) (λ c. give (more t c))) (drop (p + 1) s)
       tail-is f t =
           pick-is true (is x) (expect x (expect x (andThen (read f O d) (λ c. give (more t c))))) (give (end t)) (drop p s) (ap (is x) (head-at s p) ∙ b)
-          ∙ after-yes x (expect x (andThen (read f O d) (λ c. give (more t c)))) s p b inside z
+          ∙ expect-yes x (expect x (andThen (read f O d) (λ c. give (more t c)))) s p b inside z
 
+      -- its sign stands there once
       half-is : isAt s (p + 1) x ≡ false → (f : ℕ) → stepsAt O s at < f → Outcome (toks O j) s w o (read f O d (drop at s)) (Bad (p + 1)) o2
       half-is n zero g = absurd (omega arith)
       half-is n (suc f) g =
           let t = got f (omega arith) in
           subst (λ (y : Res (TreeOf O)). Outcome (toks O j) s w o y (Bad (p + 1)) o2)
-          (sym (step-is f (t .tree) (t .reads) ∙ (tail-is f (t .tree) ∙ after-no x (andThen (read f O d) (λ c. give (more (t .tree) c))) (drop (p + 1) s) (not-here s (p + 1) x n))))
+          (sym (step-is f (t .tree) (t .reads) ∙ (tail-is f (t .tree) ∙ expect-no x (andThen (read f O d) (λ c. give (more (t .tree) c))) (drop (p + 1) s) (not-here s (p + 1) x n))))
           (ap Bad (sym (back s (p + 1) (omega arith))), tt)
 
       pub row-half : isAt s (p + 1) x ≡ false → ParsedAt O j s at d w o (Bad (p + 1)) o2
@@ -151,7 +157,7 @@ module _ (O I : Level) (x code : ℕ) (tok : Token) (end : TreeOf I → TreeOf O
           let y : p + 1 + 1 ≡ p + 2 = omega arith in
           subst (λ (y : Res (TreeOf O)). Outcome (toks O j) s w o y r o3)
           (sym (step-is f (t .tree) (t .reads) ∙ (tail-is f (t .tree)
-          ∙ (after-yes x (andThen (read f O d) (λ c. give (more (t .tree) c))) s (p + 1) n i z ∙ ap (λ (v : ℕ). andThen (read f O d) (λ c. give (more (t .tree) c)) (drop v s)) y))))
+          ∙ (expect-yes x (andThen (read f O d) (λ c. give (more (t .tree) c))) s (p + 1) n i z ∙ ap (λ (v : ℕ). andThen (read f O d) (λ c. give (more (t .tree) c)) (drop v s)) y))))
           (more-of (t .tree) (t .tally) (t .bytes) r o3 (read f O d (drop (p + 2) s)) (k .is f (omega arith)))
 
       pub row-more : isAt s (p + 1) x ≡ true → p + 1 < length s → (r : Walked) (o3 : List ℕ) → ParsedAt O true s (p + 2) d w2 o2 r o3 → ParsedAt O j s at d w o r o3
@@ -166,15 +172,15 @@ term-link : (f d : ℕ) (l : List ℕ) → read (suc f) term d l ≡ readRow 38 
 unfolding read
 term-link f d l = refl
 
-cond-end : (j : Bool) (t : Term) → toks condition j (last t) ≡ tokensT t ++ opIf j ors
+condition-end : (j : Bool) (t : Term) → toks condition j (last t) ≡ tokensT t ++ opIf j ors
 unfolding tokensC
-cond-end true t = refl
-cond-end false t = sym (append-nil (tokensT t))
+condition-end true t = refl
+condition-end false t = sym (append-nil (tokensT t))
 
-cond-more : (j : Bool) (t : Term) (c : Condition) → toks condition j (or t c) ≡ tokensT t ++ (opIf j ors ++ tokensOr c)
+condition-more : (j : Bool) (t : Term) (c : Condition) → toks condition j (or t c) ≡ tokensT t ++ (opIf j ors ++ tokensOr c)
 unfolding tokensC
-cond-more true t c = refl
-cond-more false t c = refl
+condition-more true t c = refl
+condition-more false t c = refl
 
 term-end : (j : Bool) (t : Factor) → toks term j (only t) ≡ tokensF t ++ opIf j ands
 unfolding tokensC
@@ -209,18 +215,18 @@ put-and false w o = refl
 module _ (s : List ℕ) (at d : ℕ) (low : at ≤ length s) (j : Bool) (w : Tally) (o : List ℕ) (r1 : Walked) (o1 : List ℕ) where
   module _ (h : ParsedAt term false s at d w o r1 o1) where
     pub condition-bad : (m : ℕ) → r1 ≡ Bad m → ParsedAt condition j s at d w o r1 o1
-    condition-bad = row-bad condition term 124 161 ors last or refl condition-link refl cond-end cond-more note-or put-or s at d low j w o r1 o1 h
+    condition-bad = row-bad condition term 124 161 ors last or refl condition-link refl condition-end condition-more note-or put-or s at d low j w o r1 o1 h
 
     module _ (p : ℕ) (w1 : Tally) (e : r1 ≡ At p w1) (w2 : Tally) (o2 : List ℕ) (jn : Joined j 161 w1 o1 w2 o2) where
       pub condition-ends : isAt s p 124 ≡ false → ParsedAt condition j s at d w o (At p w2) o2
-      condition-ends = row-end condition term 124 161 ors last or refl condition-link refl cond-end cond-more note-or put-or s at d low j w o r1 o1 h p w1 e w2 o2 jn
+      condition-ends = row-end condition term 124 161 ors last or refl condition-link refl condition-end condition-more note-or put-or s at d low j w o r1 o1 h p w1 e w2 o2 jn
 
       pub condition-half : isAt s p 124 ≡ true → p < length s → isAt s (p + 1) 124 ≡ false → ParsedAt condition j s at d w o (Bad (p + 1)) o2
-      condition-half = row-half condition term 124 161 ors last or refl condition-link refl cond-end cond-more note-or put-or s at d low j w o r1 o1 h p w1 e w2 o2 jn
+      condition-half = row-half condition term 124 161 ors last or refl condition-link refl condition-end condition-more note-or put-or s at d low j w o r1 o1 h p w1 e w2 o2 jn
 
       pub condition-goes : isAt s p 124 ≡ true → p < length s → isAt s (p + 1) 124 ≡ true → p + 1 < length s → (r : Walked) (o3 : List ℕ)
           → ParsedAt condition true s (p + 2) d w2 o2 r o3 → ParsedAt condition j s at d w o r o3
-      condition-goes = row-more condition term 124 161 ors last or refl condition-link refl cond-end cond-more note-or put-or s at d low j w o r1 o1 h p w1 e w2 o2 jn
+      condition-goes = row-more condition term 124 161 ors last or refl condition-link refl condition-end condition-more note-or put-or s at d low j w o r1 o1 h p w1 e w2 o2 jn
 
   module _ (h : ParsedAt factor false s at d w o r1 o1) where
     pub term-bad : (m : ℕ) → r1 ≡ Bad m → ParsedAt term j s at d w o r1 o1
@@ -238,6 +244,7 @@ module _ (s : List ℕ) (at d : ℕ) (low : at ≤ length s) (j : Bool) (w : Tal
       term-goes = row-more term factor 38 160 ands only and refl term-link refl term-end term-more note-and put-and s at d low j w o r1 o1 h p w1 e w2 o2 jn
 
 -- ---- a factor
+
 module _ (s : List ℕ) (at d : ℕ) (low : at ≤ length s) (w : Tally) (o : List ℕ) where
   abbrev readNot : ℕ → List ℕ → Res Factor
   readNot f = andThen (read f factor d) (λ x. give (not x))
@@ -253,7 +260,7 @@ module _ (s : List ℕ) (at d : ℕ) (low : at ≤ length s) (w : Tally) (o : Li
     not-step : (f : ℕ) → read (suc f) factor d (drop at s) ≡ readNot f (drop (at + 1) s)
     not-step f =
         factor-link f (drop at s) ∙ (pick-is true (is 33) (expect 33 (readNot f)) (pick (is 40) (choose (eqb d 0) stop (expect 40 (readIn f))) readComparison) (drop at s) (ap (is 33) (head-at s at) ∙ b)
-        ∙ after-yes 33 (readNot f) s at b inside refl)
+        ∙ expect-yes 33 (readNot f) s at b inside refl)
 
     not-bad-is : (m : ℕ) → r1 ≡ Bad m → (f : ℕ) → stepsAt factor s at < f → Outcome tokensF s w o (read f factor d (drop at s)) r1 o1
     not-bad-is m e zero g = absurd (omega arith)
@@ -314,7 +321,7 @@ module _ (s : List ℕ) (at d : ℕ) (low : at ≤ length s) (w : Tally) (o : Li
 
       module _ (e : eqb d 0 ≡ false) (inside : at < length s) (r1 : Walked) (o1 : List ℕ) (h : ParsedAt condition false s (at + 1) (d - 1) w o r1 o1) where
         in-step : (f : ℕ) → read (suc f) factor d (drop at s) ≡ readIn f (drop (at + 1) s)
-        in-step f = open-step f false e ∙ after-yes 40 (readIn f) s at b inside refl
+        in-step f = open-step f false e ∙ expect-yes 40 (readIn f) s at b inside refl
 
         in-bad-is : (m : ℕ) → r1 ≡ Bad m → (f : ℕ) → stepsAt factor s at < f → Outcome tokensF s w o (read f factor d (drop at s)) r1 o1
         in-bad-is m x zero g = absurd (omega arith)
@@ -337,7 +344,7 @@ module _ (s : List ℕ) (at d : ℕ) (low : at ≤ length s) (w : Tally) (o : Li
           shut-is y i (suc f) g =
               let t = in-took f g in
               subst (λ (v : Res Factor). Outcome tokensF s w o v (At (p + 1) w1) o1)
-              (sym (in-step f ∙ (ap (λ (v : Res Condition). onward v (λ c. expect 41 (give (paren c)))) (t .reads) ∙ after-yes 41 (give (paren (t .tree))) s p y i refl))) (
+              (sym (in-step f ∙ (ap (λ (v : Res Condition). onward v (λ c. expect 41 (give (paren c)))) (t .reads) ∙ expect-yes 41 (give (paren (t .tree))) s p y i refl))) (
                 ap (λ (m : ℕ). At m w1) (sym (back s (p + 1) (omega arith))) ∙ ap (At (length s - length (drop (p + 1) s))) (t .tally ∙ ap (λ (l : List Token). noteAll l w) (paren-toks (t .tree))),
                 t .bytes ∙ ap (λ (l : List Token). putAll l w o) (paren-toks (t .tree)),
               )
@@ -350,7 +357,7 @@ module _ (s : List ℕ) (at d : ℕ) (low : at ≤ length s) (w : Tally) (o : Li
           left-is y (suc f) g =
               let t = in-took f g in
               subst (λ (v : Res Factor). Outcome tokensF s w o v (Bad p) o1)
-              (sym (in-step f ∙ (ap (λ (v : Res Condition). onward v (λ c. expect 41 (give (paren c)))) (t .reads) ∙ after-no 41 (give (paren (t .tree))) (drop p s) (not-here s p 41 y))))
+              (sym (in-step f ∙ (ap (λ (v : Res Condition). onward v (λ c. expect 41 (give (paren c)))) (t .reads) ∙ expect-no 41 (give (paren (t .tree))) (drop p s) (not-here s p 41 y))))
               (ap Bad (sym (back s p (t .top))), tt)
 
           pub factor-left : isAt s p 41 ≡ false → ParsedAt factor false s at d w o (Bad p) o1

@@ -6,15 +6,13 @@ use Prim.Native.Nat.{ℕ, suc, _+_, _-_, _≤_, _<_}
 use native.Mathlib.Omega.{arith}
 use lib.Dec.{leb}
 use borrow.Author.Tests.{le-leb, lt-leb, leb-true}
-use lib.ListN.{length, length-append, take, drop, set, length-drop}
+use lib.ListN.{length, length-append, drop, set, length-drop}
 use lib.Seq.{drop-drop}
 use Rattle.octets.specs.Bytes.{putAt, front}
 use Rattle.octets.specs.Order.{need}
-use Rattle.octets.proofs.Tests.{both-true}
-use Rattle.condition.specs.Token.{Token}
 use Rattle.wording.specs.declared.tallies.Tally.{Tally}
 use Rattle.wording.specs.declared.conditions.Walked.{Walked}
-use Rattle.wording.specs.declared.conditions.Walked.the-variants.{At, Bad}
+use Rattle.wording.specs.declared.conditions.Walked.the-variants.{At}
 use Rattle.wording.specs.declared.Translated.{Translated}
 use Rattle.wording.specs.declared.Translated.the-variants.{Done, Refused}
 use Rattle.wording.specs.Grammar.{Condition, textC, InGrammar}
@@ -22,7 +20,7 @@ use Rattle.wording.specs.Reader.{Res, good, bad, out, condition, read, R
 use Rattle.wording.specs.Stored.{formulaC, tokensOf, deep, bytesAll, storedOf}
 use Rattle.wording.specs.Translation.{storing, answerBy, translationOf, storedBy, laidOn, outAfter}
 use Rattle.wording.specs.Inner.Tokens.{tokensC}
-use Rattle.wording.specs.Inner.Walk.{noteAll, putAll, tally0, Outcome, stepsAt, ParsedAt, decideAt, decideOf, headed, Wrote}
+use Rattle.wording.specs.Inner.Walk.{noteAll, putAll, tally0, Outcome, ParsedAt, decideAt, decideOf, headed, Wrote}
 use Rattle.wording.proofs.Keeps.{OkOf}
 use Rattle.wording.proofs.Whole.{ok-read}
 use Rattle.wording.proofs.Reading.{sound}

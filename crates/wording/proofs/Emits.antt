@@ -23,6 +23,7 @@ put-append [] b w o = refl
 put-append (t ∷ a) b w o = put-append a b (noteB (length (tokenBytes t)) (takes t) w) (putB (tokenBytes t) w o)
 
 -- ---- laws of the small writers
+
 pub up-yes : (a k : ℕ) → a < 100000 → a + k ≡ upBy a k
 unfolding upBy
 up-yes a k h = rw (lt-ltb a 100000 h) refl

@@ -1,16 +1,14 @@
 -- Texts worked by hand, by computation: which are in the grammar and where others leave it, the tree, the stored form and the meaning of one, and the limits.
 use mathlib.Core.Path.{_≡_, refl}
-use mathlib.Core.Bool.{Bool, true, false}
+use mathlib.Core.Bool.{false}
 use mathlib.Core.List.{List, [], _∷_, _++_, map}
-use mathlib.Core.Option.{Option, none, some}
 use Prim.Native.Nat.{ℕ, zero, suc}
 use Prim.Native.String.{String}
-use lib.ListN.{length}
-use Rattle.octets.specs.Bytes.{le, spell, sameBytes, front}
+use Rattle.octets.specs.Bytes.{spell, sameBytes}
 use Rattle.octets.specs.Order.{need}
 use Rattle.condition.specs.declared.truths.Truth.{Truth}
 use Rattle.condition.specs.declared.truths.Truth.the-variants.{False, True, Unknown}
-use Rattle.condition.specs.Token.{Compare, equal, below, atLeast, signed}
+use Rattle.condition.specs.Token.{equal, atLeast, signed}
 use Rattle.condition.specs.Table.{Attribute, valueIn}
 use Rattle.condition.specs.Meaning.{andOf, orOf, notOf, compareOf}
 use Rattle.condition.specs.Tree.{spelt}

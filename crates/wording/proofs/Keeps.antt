@@ -34,8 +34,8 @@ abbrev pub Ok : {A : Type 0} (spell : A → List ℕ) (Valid : A → Type 0) (pr
 Ok spell Valid pre p s = OkOf spell Valid pre p s (p s)
 
 module _ {A : Type 0} (spell : A → List ℕ) (Valid : A → Type 0) (pre : List ℕ) where
-  pub ok-done : (b : A) (s : List ℕ) → pre ≡ spell b → Valid b → Ok spell Valid pre (give b) s
-  ok-done b s e v = record { part = []; text = refl; spelt = append-nil pre ∙ e; valid = v; local = λ l h. refl }
+  pub ok-give : (b : A) (s : List ℕ) → pre ≡ spell b → Valid b → Ok spell Valid pre (give b) s
+  ok-give b s e v = record { part = []; text = refl; spelt = append-nil pre ∙ e; valid = v; local = λ l h. refl }
 
   pub ok-stop : (s : List ℕ) → Goes spell Valid pre → Ok spell Valid pre stop s
   ok-stop s g = record { part = []; text = refl; goes = rw append-nil g; local = λ l h. refl }
@@ -111,9 +111,9 @@ module _ {A : Type 0} (spell : A → List ℕ) (Valid : A → Type 0) (pre : Lis
           (record { part = []; text = refl; goes = rw append-nil g; local = λ l f. one-no t k l (ap t f ∙ e) })
 
   -- the byte x
-  pub ok-after : (x : ℕ) (p : List ℕ → Res A) (s : List ℕ) → eqb 0 x ≡ false → Goes spell Valid pre
+  pub ok-expect : (x : ℕ) (p : List ℕ → Res A) (s : List ℕ) → eqb 0 x ≡ false → Goes spell Valid pre
       → ((r : List ℕ) → Ok spell Valid (pre ++ (x ∷ [])) p r) → Ok spell Valid pre (expect x p) s
-  ok-after x p s z g h =
+  ok-expect x p s z g h =
       ok-one (is x) (λ b. p) s z g (λ b r e. subst (λ (y : ℕ). Ok spell Valid (pre ++ (y ∷ [])) p r) (sym (eqb-true b x e)) (h r))
 
   then-of : {B : Type 0} (spellB : B → List ℕ) (ValidB : B → Type 0) (p : List ℕ → Res B) (k : B → List ℕ → Res A) (s : List ℕ) (b : B) (r : List ℕ)

@@ -1,15 +1,15 @@
 -- The tokens of a tree in the grammar are such as their bytes hold.
-use mathlib.Core.Path.{_≡_, refl, subst}
+use mathlib.Core.Path.{subst}
 use mathlib.Core.Bool.{Bool, true, false}
 use mathlib.Core.List.{List, [], _∷_, _++_}
-use Prim.Native.Nat.{ℕ, zero, suc, _+_, _-_, _*_, _≤_, _<_}
+use Prim.Native.Nat.{ℕ, zero, suc, _+_, _-_, _≤_, _<_}
 use native.Mathlib.Omega.{arith}
 use lib.IntN.{ℤ, pos, negsuc}
 use lib.ListN.{length, length-append}
 use Rattle.condition.specs.Token.{Compare, Token, push, ands, ors, nots}
 use Rattle.wording.specs.Grammar.{val, limit, Side, name, integer, Condition, last, or, Term, only, and, Factor, not, paren, compare}
 use Rattle.wording.specs.Grammar.{textS, textR, textC, textT, textF, ValidS, ValidC, ValidT, ValidF}
-use Rattle.wording.specs.Stored.{wide, numberOf, integerOf, wordFor, operandOf, tokensOf}
+use Rattle.wording.specs.Stored.{numberOf, integerOf, wordFor, operandOf, tokensOf}
 use Rattle.wording.specs.Inner.Tokens.{tokensC, tokensOr, tokensT, tokensAnd, tokensF}
 use Rattle.wording.proofs.Longs.{length-wide}
 use Rattle.wording.proofs.Flat.{tokens-flat}

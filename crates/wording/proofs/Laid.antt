@@ -13,7 +13,7 @@ use Rattle.octets.specs.Bytes.{putAt, putOn, spell}
 use Rattle.octets.proofs.Places.{put-snoc, put-append, put-nil, put-tail}
 use Rattle.octets.proofs.Writes.{put-all}
 use Rattle.octets.proofs.Little.{length-spell}
-use Rattle.condition.specs.Token.{number, name as named, push}
+use Rattle.condition.specs.Token.{name as named, push}
 use Rattle.wording.specs.declared.tallies.Tally.{Tally}
 use Rattle.wording.specs.Stored.{wide, numberOf, wordFor, tokenBytes}
 use Rattle.wording.specs.Inner.Walk.{putB}

@@ -19,9 +19,10 @@ use Rattle.wording.specs.Inner.Walk.{isAt}
 use Rattle.wording.specs.Inner.Leaf.{classOf, ClassAt, NameEnd, digitsFound, foundOf, signOf}
 use Rattle.wording.proofs.Parts.{rest-no, rest-yes, digits-no, digits-yes, digits-over}
 use Rattle.wording.proofs.Complete.{digit-letter}
-use Rattle.wording.proofs.Places.{head-at, byte-here, not-here, after-no, after-yes, pick-is, back}
+use Rattle.wording.proofs.Places.{head-at, byte-here, not-here, expect-no, expect-yes, pick-is, back}
 
 -- ---- kinds of bytes
+
 module _ (x : ℕ) where
   class-0 : digit x ≡ false → letter x ≡ false → 0 ≡ classOf x
   unfolding classOf
@@ -133,6 +134,7 @@ no-alnum x e = by (classOf x) e (class x)
     by k h (letters a b) = absurd (omega arith)
 
 -- ---- names
+
 module _ (s : List ℕ) (at : ℕ) where
   next-at : at < length s → drop at s ≡ getD s at 0 ∷ drop (at + 1) s
   next-at h = byte-here s at (getD s at 0) (eq-eqb (getD s at 0) (getD s at 0) refl) h
@@ -151,6 +153,7 @@ module _ (s : List ℕ) (at : ℕ) where
       }
 
   -- ---- numbers
+
   pub number-stop : (neg : Bool) (v : ℕ) → at ≤ length s → (classOf (getD s at 0) ≡ 1 → ⊥) → Number neg v at ≡ digitsFound (length s) neg v (readDigits neg v (drop at s))
   unfolding val
   number-stop neg v h e =
@@ -211,6 +214,7 @@ module _ (s : List ℕ) (at : ℕ) where
       ∙ ap (λ (y : Bool). choose y (λ m. andThen (readDigits neg (b - 48)) (λ n. give (integer neg b n)) (drop (at + 1) s)) bad (b ∷ drop (at + 1) s)) (is-digit b e)))))
 
   -- ---- operands
+
   abbrev readName : List ℕ → Res Side
   readName = one letter (λ b. andThen readRest (λ n. give (name b n)))
 
@@ -232,7 +236,7 @@ module _ (s : List ℕ) (at : ℕ) where
       → r ≡ foundOf (length s) (readNumber true (drop (at + 1) s)) → r ≡ foundOf (length s) (readOperand (drop at s))
   op-minus c b h r k =
       k ∙ ap (foundOf (length s)) (sym (not-name c ∙ (pick-is true (is 45) (expect 45 (readNumber true)) (readNumber false) (drop at s) (ap (is 45) (head-at s at) ∙ b)
-      ∙ after-yes 45 (readNumber true) s at b h refl)))
+      ∙ expect-yes 45 (readNumber true) s at b h refl)))
 
   pub op-plain : (classOf (getD s at 0) ≡ 2 → ⊥) → isAt s at 45 ≡ false → (r : Found) → r ≡ foundOf (length s) (readNumber false (drop at s)) → r ≡ foundOf (length s) (readOperand (drop at s))
   op-plain c b r k =
@@ -247,6 +251,7 @@ limit-high true = omega arith
 limit-high false = omega arith
 
 -- ---- the six comparisons
+
 module _ (s : List ℕ) (at : ℕ) (low : at ≤ length s) where
   abbrev signA : List ℕ → Res Compare
   signA = expect 61 (expect 61 (give equal))
@@ -301,22 +306,22 @@ module _ (s : List ℕ) (at : ℕ) (low : at ≤ length s) where
   both-bytes : (x : ℕ) (c : Compare) → eqb x x ≡ true → isAt s at x ≡ true → at < length s → isAt s (at + 1) 61 ≡ true → at + 1 < length s
       → expect x (expect 61 (give c)) (drop at s) ≡ good c (drop (at + 2) s)
   both-bytes x c z b h d i =
-      after-yes x (expect 61 (give c)) s at b h z ∙ (after-yes 61 (give c) s (at + 1) d i refl ∙ ap (λ (n : ℕ). good c (drop n s)) two)
+      expect-yes x (expect 61 (give c)) s at b h z ∙ (expect-yes 61 (give c) s (at + 1) d i refl ∙ ap (λ (n : ℕ). good c (drop n s)) two)
 
   one-byte : (x : ℕ) (c : Compare) → eqb x x ≡ true → isAt s at x ≡ true → at < length s → isAt s (at + 1) 61 ≡ false → expect x (expect 61 (give c)) (drop at s) ≡ bad (drop (at + 1) s)
-  one-byte x c z b h d = after-yes x (expect 61 (give c)) s at b h z ∙ after-no 61 (give c) (drop (at + 1) s) (not-here s (at + 1) 61 d)
+  one-byte x c z b h d = expect-yes x (expect 61 (give c)) s at b h z ∙ expect-no 61 (give c) (drop (at + 1) s) (not-here s (at + 1) 61 d)
 
   long-one : (x : ℕ) (c e : Compare) → eqb x x ≡ true → isAt s at x ≡ true → at < length s → isAt s (at + 1) 61 ≡ true → at + 1 < length s
       → expect x (pick (is 61) (expect 61 (give c)) (give e)) (drop at s) ≡ good c (drop (at + 2) s)
   long-one x c e z b h d i =
-      after-yes x (pick (is 61) (expect 61 (give c)) (give e)) s at b h z
+      expect-yes x (pick (is 61) (expect 61 (give c)) (give e)) s at b h z
       ∙ (pick-is true (is 61) (expect 61 (give c)) (give e) (drop (at + 1) s) (ap (is 61) (head-at s (at + 1)) ∙ d)
-      ∙ (after-yes 61 (give c) s (at + 1) d i refl ∙ ap (λ (n : ℕ). good c (drop n s)) two))
+      ∙ (expect-yes 61 (give c) s (at + 1) d i refl ∙ ap (λ (n : ℕ). good c (drop n s)) two))
 
   short-one : (x : ℕ) (c e : Compare) → eqb x x ≡ true → isAt s at x ≡ true → at < length s → isAt s (at + 1) 61 ≡ false
       → expect x (pick (is 61) (expect 61 (give c)) (give e)) (drop at s) ≡ good e (drop (at + 1) s)
   short-one x c e z b h d =
-      after-yes x (pick (is 61) (expect 61 (give c)) (give e)) s at b h z ∙ pick-is false (is 61) (expect 61 (give c)) (give e) (drop (at + 1) s) (not-here s (at + 1) 61 d)
+      expect-yes x (pick (is 61) (expect 61 (give c)) (give e)) s at b h z ∙ pick-is false (is 61) (expect 61 (give c)) (give e) (drop (at + 1) s) (not-here s (at + 1) 61 d)
 
   abbrev Says : Sign → Type 0
   Says r = r ≡ signOf (length s) (readSign (drop at s))
@@ -350,7 +355,7 @@ module _ (s : List ℕ) (at : ℕ) (low : at ≤ length s) where
 
       module _ (k : isAt s at 60 ≡ false) where
         pub sign-none : isAt s at 62 ≡ false → Says (Not at)
-        sign-none b = gives-not at low (step-d n m k ∙ after-no 62 (pick (is 61) (expect 61 (give atLeast)) (give above)) (drop at s) (not-here s at 62 b))
+        sign-none b = gives-not at low (step-d n m k ∙ expect-no 62 (pick (is 61) (expect 61 (give atLeast)) (give above)) (drop at s) (not-here s at 62 b))
 
         module _ (b : isAt s at 62 ≡ true) (h : at < length s) where
           pub sign-least : isAt s (at + 1) 61 ≡ true → at + 1 < length s → Says (Is 133 (at + 2))

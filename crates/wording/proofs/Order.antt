@@ -1,6 +1,6 @@
 -- The tokens push the operands in the order of the text, and each literal has sign byte 3 and base byte 2.
 use mathlib.Core.Path.{_≡_, refl, sym, ap, ap₂, _∙_}
-use mathlib.Core.List.{List, [], _∷_, _++_, map, map-append, append-assoc, append-nil}
+use mathlib.Core.List.{List, [], _∷_, _++_, map, map-append, append-nil}
 use Prim.Native.Nat.{ℕ, _+_}
 use lib.ListN.{length, drop, getD}
 use lib.Seq.{drop-drop, drop-append-seam}

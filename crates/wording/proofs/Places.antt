@@ -12,12 +12,12 @@ use borrow.Author.Tests.{eqb-true}
 use Rattle.condition.specs.Token.{Token}
 use Rattle.wording.specs.declared.conditions.Walked.{Walked}
 use Rattle.wording.specs.declared.conditions.Walked.the-variants.{Bad}
-use Rattle.wording.specs.Grammar.{and}
 use Rattle.wording.specs.Inner.Walk.{Outcome, isAt}
-use Rattle.wording.specs.Reader.{Res, expect, bad, onward, choose, good, head0, is, one, out, pick}
+use Rattle.wording.specs.Reader.{Res, expect, bad, onward, choose, good, head0, is, out, pick}
 use Rattle.wording.specs.declared.tallies.Tally.{Tally}
 
 -- ---- places and what stands there
+
 pub head-at : (s : List ℕ) (p : ℕ) → head0 (drop p s) ≡ getD s p 0
 head-at s p = first (drop p s) ∙ (getD-drop p s 0 0 ∙ ap (λ (n : ℕ). getD s n 0) (let e : p + 0 ≡ p = omega arith in e))
   where
@@ -31,12 +31,12 @@ byte-here s p x e h = rw (add-one, drop-cons s p 0) (ap (λ (b : ℕ). b ∷ dro
 pub not-here : (s : List ℕ) (p x : ℕ) → isAt s p x ≡ false → is x (head0 (drop p s)) ≡ false
 not-here s p x e = ap (is x) (head-at s p) ∙ e
 
-pub after-no : {A : Type 0} (x : ℕ) (q : List ℕ → Res A) (l : List ℕ) → is x (head0 l) ≡ false → expect x q l ≡ bad l
-after-no x q [] e = refl
-after-no x q (b ∷ l) e = ap (λ (y : Bool). choose y (λ m. q l) bad (b ∷ l)) e
+pub expect-no : {A : Type 0} (x : ℕ) (q : List ℕ → Res A) (l : List ℕ) → is x (head0 l) ≡ false → expect x q l ≡ bad l
+expect-no x q [] e = refl
+expect-no x q (b ∷ l) e = ap (λ (y : Bool). choose y (λ m. q l) bad (b ∷ l)) e
 
-pub after-yes : {A : Type 0} (x : ℕ) (q : List ℕ → Res A) (s : List ℕ) (p : ℕ) → isAt s p x ≡ true → p < length s → eqb x x ≡ true → expect x q (drop p s) ≡ q (drop (p + 1) s)
-after-yes x q s p e h z = ap (expect x q) (byte-here s p x e h) ∙ ap (λ (y : Bool). choose y (λ m. q (drop (p + 1) s)) bad (x ∷ drop (p + 1) s)) z
+pub expect-yes : {A : Type 0} (x : ℕ) (q : List ℕ → Res A) (s : List ℕ) (p : ℕ) → isAt s p x ≡ true → p < length s → eqb x x ≡ true → expect x q (drop p s) ≡ q (drop (p + 1) s)
+expect-yes x q s p e h z = ap (expect x q) (byte-here s p x e h) ∙ ap (λ (y : Bool). choose y (λ m. q (drop (p + 1) s)) bad (x ∷ drop (p + 1) s)) z
 
 pub pick-is : {A : Type 0} (b : Bool) (t : ℕ → Bool) (p q : List ℕ → Res A) (l : List ℕ) → t (head0 l) ≡ b → pick t p q l ≡ choose b p q l
 pick-is b t p q l e = ap (λ (y : Bool). choose y p q l) e

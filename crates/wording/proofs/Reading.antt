@@ -13,18 +13,19 @@ use Rattle.wording.proofs.Ending.{Settled, read-settled}
 use Rattle.wording.proofs.Keeps.{OkOf}
 use Rattle.wording.proofs.Parts.{alnum-zero}
 use Rattle.wording.proofs.Whole.{ok-read}
-use Rattle.wording.specs.Grammar.{Condition, Goes, InGrammar, Stops, and, textC}
-use Rattle.wording.specs.Reader.{Reading, Res, accepted, bad, condition, endOf, good, head0, is, one, out, read, reading, refused}
+use Rattle.wording.specs.Grammar.{Condition, Goes, InGrammar, Stops, textC}
+use Rattle.wording.specs.Reader.{Reading, Res, accepted, bad, bound, condition, endOf, good, head0, out, read, reading, refused}
 
+-- a reader's answer that is neither this tree nor `out` is of no text of the tree
 never : (f : ℕ) (c : Condition) (t : List ℕ) (y : Res Condition) → InGrammar c → textC c ≡ t → read f condition 12 t ≡ y → (y ≡ good c [] → ⊥) → (y ≡ out → ⊥) → ⊥
 never f c t y v e h g o = by (full f condition 12 c [] v (alnum-zero, refl, refl))
   where
-    equal : textC c ++ [] ≡ t
-    equal = append-nil (textC c) ∙ e
+    whole : textC c ++ [] ≡ t
+    whole = append-nil (textC c) ∙ e
 
     by : Gives (read f condition 12 (textC c ++ [])) (good c []) → ⊥
-    by (same x) = g (sym h ∙ (ap (read f condition 12) (sym equal) ∙ x))
-    by (short x) = o (sym h ∙ (ap (read f condition 12) (sym equal) ∙ x))
+    by (same x) = g (sym h ∙ (ap (read f condition 12) (sym whole) ∙ x))
+    by (short x) = o (sym h ∙ (ap (read f condition 12) (sym whole) ∙ x))
 
 bad-good : (l : List ℕ) (c : Condition) (r : List ℕ) → bad l ≡ good c r → ⊥
 bad-good l c r e = let z : _≡_ {A = ℕ} 0 1 = cc in omega arith
@@ -41,6 +42,7 @@ good-more c e b l h = let z : _≡_ {A = ℕ} 0 1 = cc in omega arith
 cons-nil : (b : ℕ) (r : List ℕ) → (b ∷ r) ≡ [] → ⊥
 cons-nil b r e = let z : _≡_ {A = ℕ} 0 1 = cc in omega arith
 
+-- one byte more
 take-next : (p : List ℕ) (b : ℕ) (l : List ℕ) → take (suc (length p)) (p ++ (b ∷ l)) ≡ p ++ (b ∷ [])
 take-next [] b l = refl
 take-next (x ∷ p) b l = ap (λ (y : List ℕ). x ∷ y) (take-next p b l)
@@ -74,7 +76,8 @@ module _ (s part r : List ℕ) (text : s ≡ part ++ r) (go : Goes textC InGramm
         not-whole = not-whole-at r refl;
       })
 
--- ---- what a reading says, by the reader's endOf
+-- ---- what a reading says, by how the reader ends
+
 abbrev Says : List ℕ → Reading → Type 0
 Says s (accepted c) = (s ≡ textC c) × InGrammar c
 Says s (refused k) = Stops s k
@@ -91,11 +94,13 @@ says-of f s (bad r) g t =
     (λ e d v q. never f d (g .part ++ []) (bad []) v (q ∙ sym (append-nil (g .part))) (g .local [] (sym (ap head0 e))) (bad-good [] d []) (bad-out []))
 says-of f s out g t = absurd t
 
+-- for every text
 pub says : (s : List ℕ) → Says s (reading s)
 unfolding reading
-says s = says-of (3 * length s + 3) s (read (3 * length s + 3) condition 12 s) (ok-read (3 * length s + 3) condition 12 s) (read-settled (3 * length s + 3) condition 12 s (omega arith))
+says s = says-of (bound s) s (read (bound s) condition 12 s) (ok-read (bound s) condition 12 s) (read-settled (bound s) condition 12 s (omega arith))
 
 -- ---- the theorems
+
 -- what is accepted is the text of the tree that is given
 pub sound : (s : List ℕ) (c : Condition) → reading s ≡ accepted c → (s ≡ textC c) × InGrammar c
 sound s c e = subst (λ (a : Reading). Says s a) e (says s)
@@ -131,6 +136,7 @@ complete c v = ap (endOf (length (textC c))) (by (full f condition 12 c [] v (al
 pub one-reading : (c e : Condition) → InGrammar c → InGrammar e → textC c ≡ textC e → c ≡ e
 one-reading c e v w h = let x = sym (complete c v) ∙ (ap reading h ∙ complete e w) in cc
 
+-- two offsets: the earlier one leaves no continuation for the later
 not-before : (s : List ℕ) (k m : ℕ) → Stops s k → Stops s m → k < m → ⊥
 not-before s k m g h l =
     let t = h .goes in

@@ -1,24 +1,21 @@
 -- The walk's tally is exact for texts of at most 512 bytes, and with room its bytes are the stored form's.
 use mathlib.Core.Path.{_≡_, refl, sym, ap, _∙_}
-use mathlib.Core.Bool.{true, false}
-use mathlib.Core.List.{List, [], _∷_, _++_, append-assoc, append-nil}
-use Prim.Native.Nat.{ℕ, _+_, _-_, _*_, _≤_, _<_}
+use mathlib.Core.List.{List, [], _∷_}
+use Prim.Native.Nat.{ℕ, _+_, _-_, _≤_, _<_}
 use native.Mathlib.Omega.{arith}
 use borrow.Author.Tests.{le-leb}
 use lib.ListN.{length, length-append}
-use Rattle.octets.specs.Bytes.{spell, putAt}
-use Rattle.octets.proofs.Little.{length-spell}
+use Rattle.octets.specs.Bytes.{putAt}
 use Rattle.octets.proofs.Places.{length-put, put-append, put-nil}
-use Rattle.condition.specs.Token.{Compare, Token, above, ands, atLeast, atMost, below, compares, equal, nots, number, ors, push, unequal}
+use Rattle.condition.specs.Token.{Token}
 use Rattle.wording.proofs.Deep.{highest}
 use Rattle.wording.proofs.Emits.{up-yes}
-use Rattle.wording.specs.Grammar.{Condition, Factor, Side, Term, and, compare, integer, last, name, not, only, or, paren, textC, textF, textS, textR, textT}
-use Rattle.wording.specs.Inner.Tokens.{tokensAnd, tokensC, tokensF, tokensOr, tokensT}
 use Rattle.wording.specs.Inner.Walk.{noteAll, noteB, putAll, putB, takes, upBy}
-use Rattle.wording.specs.Stored.{bytesAll, tokenBytes, integerOf, operandOf, wide, wordFor}
+use Rattle.wording.specs.Stored.{bytesAll, tokenBytes}
 use Rattle.wording.specs.declared.tallies.Tally.{Tally}
 
 -- ---- the tally is exact below its bound
+
 pub tokens-exact : (l : List Token) (w : Tally) → w .tokens + length l < 100000 → noteAll l w .tokens ≡ w .tokens + length l
 unfolding noteAll noteB
 tokens-exact [] w h = omega arith
