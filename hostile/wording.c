@@ -8,8 +8,8 @@
 #include "texts.h"
 #include "cases.h"
 
-/* The refusals of a text; and how long the form of two one-letter names is. */
-enum { NOT_A_TEXT = 16, TOO_LARGE = 17, SHORTEST_FORM = 4 + 7 + 7 + 1 };
+/* How long the form of two one-letter names is. */
+enum { SHORTEST_FORM = 4 + 7 + 7 + 1 };
 
 uint64_t texts[TEXTS];
 
@@ -56,9 +56,9 @@ static void check_text_places(size_t len)
         fault("number %u, places 1, 6 and 7 are %u, %u and %u", a[0], a[1], a[6], a[7]);
     if (a[0] && (a[3] || a[4] || a[5]))
         fault("refusal %u tells more: %u %u %u", a[0], a[3], a[4], a[5]);
-    if (a[0] == NOT_A_TEXT ? a[2] > most : a[2] != 0)
+    if (a[0] == PT_TEXT ? a[2] > most : a[2] != 0)
         fault("number %u at %u of %zu", a[0], a[2], len);
-    if (len > TEXT_MOST && (a[0] != NOT_A_TEXT || a[2] != TEXT_MOST))
+    if (len > TEXT_MOST && (a[0] != PT_TEXT || a[2] != TEXT_MOST))
         fault("%zu bytes, and number %u at %u", len, a[0], a[2]);
 }
 
@@ -84,7 +84,7 @@ static void check_before_offset(void)
 
     memcpy(copy, lent[FIRST].before, offset);
     translate_copy(offset, found);
-    if (found[0] == NOT_A_TEXT ? found[2] != offset : found[0] != PT_DONE && found[0] != TOO_LARGE)
+    if (found[0] == PT_TEXT ? found[2] != offset : found[0] != PT_DONE && found[0] != PT_LARGE)
         fault("16 at %zu, and what stands before it is %u at %u", offset, found[0], found[2]);
 }
 
@@ -102,7 +102,7 @@ static int goes_on(size_t len, const char *ending)
     memset(copy + end, ')', open);
     end += open;
     translate_copy(end, found);
-    return end > TEXT_MOST || found[0] != NOT_A_TEXT;
+    return end > TEXT_MOST || found[0] != PT_TEXT;
 }
 
 /* With one of these endings it is a text, wherever it stops. */
@@ -173,10 +173,10 @@ static void check_in_parentheses(const uint32_t *probed)
     }
     if (a[5] > TOKENS_MOST) {
         memset(a, 0, 32);
-        a[0] = TOO_LARGE;
+        a[0] = PT_LARGE;
     }
     translate_copy(len, found);
-    if (is_nested ? found[0] != NOT_A_TEXT : memcmp(found, a, 32))
+    if (is_nested ? found[0] != PT_TEXT : memcmp(found, a, 32))
         fault("number %u, and in parentheses %u at %u", probed[0], found[0], found[2]);
     if (!found[0] && (memcmp(again, plenty, probed[3]) || (has_not && again[probed[3]] != 0xA2)))
         fault("in parentheses it has another form");
@@ -195,7 +195,7 @@ static void check_twice(const uint32_t *probed)
     memcpy(copy + len + 2, copy, len);
     translate_copy(2 * len + 2, found);
     if (found[0] != PT_DONE) {
-        if (found[0] != TOO_LARGE)
+        if (found[0] != PT_LARGE)
             fault("a good text, joined to itself, is %u at %u", found[0], found[2]);
         return;
     }
@@ -212,7 +212,7 @@ static void count_text(const uint32_t *a)
     texts[TEXT_NESTED] += !a[0] && nested(lent[FIRST].before, len) == OPEN_MOST;
     texts[TEXT_LONGEST] += !a[0] && len == TEXT_MOST;
     texts[TEXT_TOO_LONG] += len > TEXT_MOST;
-    texts[TEXT_CUT] += a[0] == NOT_A_TEXT && a[2] == len;
+    texts[TEXT_CUT] += a[0] == PT_TEXT && a[2] == len;
 }
 
 /* Asked first with plenty of room. */
@@ -229,13 +229,13 @@ uint32_t case_condition(void)
     pt_condition(lent[FIRST].at, len, lent[OUT].at, out_len, answer());
     check_text_places(len);
     check_probed(probed, out_len);
-    if (is_good && probed[0] == NOT_A_TEXT)
+    if (is_good && probed[0] == PT_TEXT)
         fault("a text in the grammar is refused at %u", probed[2]);
     if (probed[0] == PT_DONE) {
         check_form(plenty, probed);
         check_twice(probed);
     }
-    if (probed[0] != NOT_A_TEXT) {
+    if (probed[0] != PT_TEXT) {
         check_in_parentheses(probed);
     } else if (len > TEXT_MOST) {
         check_longer();
