@@ -1,20 +1,21 @@
 -- Texts worked by hand, by computation: which are in the grammar and where others leave it, the tree, the stored form and the meaning of one, and the limits.
 use mathlib.Core.Path.{_≡_, refl}
-use mathlib.Core.Bool.{false}
+use mathlib.Core.Bool.{true, false}
 use mathlib.Core.List.{List, [], _∷_, _++_, map}
 use Prim.Native.Nat.{ℕ, zero, suc}
 use Prim.Native.String.{String}
+use native.Mathlib.Omega.{arith}
 use Rattle.octets.specs.Bytes.{spell, sameBytes}
 use Rattle.octets.specs.Order.{need}
 use Rattle.condition.specs.declared.truths.Truth.{Truth}
 use Rattle.condition.specs.declared.truths.Truth.the-variants.{False, True, Unknown}
-use Rattle.condition.specs.Token.{equal, atLeast, signed}
+use Rattle.condition.specs.Token.{equal, unequal, below, atMost, above, atLeast, signed}
 use Rattle.condition.specs.Table.{Attribute, valueIn}
 use Rattle.condition.specs.Meaning.{andOf, orOf, notOf, compareOf}
 use Rattle.condition.specs.Tree.{spelt}
 use Rattle.wording.specs.declared.Translated.{Translated}
 use Rattle.wording.specs.declared.Translated.the-variants.{Done, Refused}
-use Rattle.wording.specs.Grammar.{Condition, last, or, only, and, not, paren, compare, name, integer, ascii, digit, letter, alnum, val}
+use Rattle.wording.specs.Grammar.{Condition, last, or, only, and, not, paren, compare, name, integer, ascii, textS, textR, textC, digit, letter, alnum, all, val, ValidS, ValidC, InGrammar}
 use Rattle.wording.specs.Reader.{Reading, accepted, refused, readRest, readDigits, readNumber, readOperand, readSign, readComparison, read, reading}
 use Rattle.wording.specs.Stored.{wide, wordFor, operandOf, formulaC, deep, codeOf, tokenBytes, bytesAll, storedOf}
 use Rattle.wording.specs.Meaning.{valueS, compared, meansC}
@@ -131,6 +132,41 @@ typed-tree =
 pub reads-typed : reading typed ≡ accepted typed-tree
 unfolding typed typed-tree reading read readComparison readSign readOperand readNumber readDigits readRest digit letter alnum
 reads-typed = refl
+
+-- and back: its text, and that it is in the grammar
+pub typed-text : textC typed-tree ≡ typed
+unfolding typed typed-tree textC textS textR
+typed-text = refl
+
+pub typed-in : InGrammar typed-tree
+unfolding typed-tree ValidC ValidS all digit letter alnum val
+typed-in = (((refl, refl), (refl, refl, omega arith)), (omega arith, (((refl, refl), (refl, refl, omega arith)), ((refl, refl), (refl, refl, omega arith)))))
+
+-- the other signs, a minus, and a row of three
+pub texts-worked : map textC (
+    last (only (compare (name 97 []) unequal (integer true 49 (50 ∷ []))))
+    ∷ last (only (compare (integer false 48 []) below (name 97 [])))
+    ∷ last (and (compare (name 97 []) atMost (name 98 [])) (and (compare (name 97 []) above (name 98 [])) (only (compare (name 97 []) atLeast (name 98 [])))))
+    ∷ [])
+    ≡ ascii "a!=-12" ∷ ascii "0<a" ∷ ascii "a<=b&&a>b&&a>=b" ∷ []
+unfolding textC textS textR
+texts-worked = refl
+
+-- the stored form of 1 and 12 compared, by the comparison's code
+abbrev one-twelve : ℕ → List ℕ
+one-twelve code =
+    0x61 ∷ 0x72 ∷ 0x74 ∷ 0x78
+    ∷ 0x04 ∷ 1 ∷ 0 ∷ 0 ∷ 0 ∷ 0 ∷ 0 ∷ 0 ∷ 0 ∷ 3 ∷ 2
+    ∷ 0x04 ∷ 12 ∷ 0 ∷ 0 ∷ 0 ∷ 0 ∷ 0 ∷ 0 ∷ 0 ∷ 3 ∷ 2 ∷ code ∷ []
+
+pub codes-worked : map (λ (s : String). storedBy (reading (ascii s))) ("1==12" ∷ "1!=12" ∷ "1<12" ∷ "1<=12" ∷ "1>12" ∷ "1>=12" ∷ []) ≡ map one-twelve (0x80 ∷ 0x81 ∷ 0x82 ∷ 0x83 ∷ 0x84 ∷ 0x85 ∷ [])
+unfolding storedBy reading read readComparison readSign readOperand readNumber readDigits readRest digit letter alnum formulaC spelt operandOf wordFor val storedOf bytesAll tokenBytes codeOf spell
+codes-worked = refl
+
+-- a ! is a byte more
+pub not-worked : storedBy (reading (ascii "!1==12")) ≡ one-twelve 0x80 ++ (0xA2 ∷ [])
+unfolding storedBy reading read readComparison readSign readOperand readNumber readDigits readRest digit letter alnum formulaC spelt operandOf wordFor val storedOf bytesAll tokenBytes codeOf spell
+not-worked = refl
 
 -- the stored form of a row of three: a == b, a == c and a == d, with that operator behind the second one and behind the third
 abbrev three : ℕ → List ℕ

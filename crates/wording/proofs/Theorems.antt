@@ -80,7 +80,7 @@ pub record Translates (s o : List ℕ) (n k : ℕ) : Type 0 where
   pub rest : drop n (outAfter s o) ≡ drop n o
   pub size : n ≡ length (storedOf tree)
   pub tokens : k ≡ length (tokensOf tree)
-  -- Five's check accepts it with its tokens, which end where it does: there is no padding
+  -- the check of RULES 11.4 accepts it with its tokens, which end where it does: there is no padding
   pub accepts : acceptedOf (take n (outAfter s o)) ≡ some (tokensOf tree)
   pub ends : storedEnd (take n (outAfter s o)) ≡ n
   -- under every table that is made so it evaluates to what the text means
@@ -134,7 +134,7 @@ stored-answer : (s : List ℕ) (room : ℕ) (c : Condition) → length s ≤ 512
 unfolding translationOf answerBy storing need
 stored-answer s room c h r = rw (le-leb (length s) 512 h, r)
 
--- 17 exactly where there are over 64 tokens or the stack stands deeper than 16; that is exactly where Five's check refuses the stored form; then 8, exactly
+-- 17 exactly where there are over 64 tokens or the stack stands deeper than 16; that is exactly where the check of RULES 11.4 refuses the stored form; then 8, exactly
 -- where it is longer than the room
 pub record Limits (s : List ℕ) (room : ℕ) (c : Condition) : Type 0 where
   pub seventeen : (translationOf s room ≡ Refused 17 0) ↔ (holdable c ≡ false)
