@@ -20,14 +20,11 @@ use Rattle.condition.proofs.Trees.{spelt-runs}
 use Rattle.wording.specs.Grammar.{Condition, textC, InGrammar}
 use Rattle.wording.specs.Stored.{formulaC, tokensOf, deep, bytesAll, storedOf}
 use Rattle.wording.specs.Meaning.{meansC}
+use Rattle.wording.specs.Translation.{holdable}
 use Rattle.wording.proofs.Deep.{one-left}
 use Rattle.wording.proofs.Back.{AllKept, tokens-back, tokens-over, long-all}
 use Rattle.wording.proofs.Kept.{kept}
 use Rattle.wording.proofs.Means.{formula-means}
-
--- at most 64 tokens, at most 16 deep: what the check of stored expressions holds
-abbrev pub holdable : Condition → Bool
-holdable c = leb (length (tokensOf c)) 64 && leb (deep (formulaC c)) 16
 
 -- the tokens end where the stored form does
 pub ends : (c : Condition) → tokensEnd (tokensOf c) ≡ length (storedOf c)

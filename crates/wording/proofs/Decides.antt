@@ -18,7 +18,7 @@ use Rattle.wording.specs.declared.Translated.the-variants.{Done, Refused
 use Rattle.wording.specs.Grammar.{Condition, textC, InGrammar}
 use Rattle.wording.specs.Reader.{Res, good, bad, out, condition, read, Reading, accepted, refused, endOf, bound, reading}
 use Rattle.wording.specs.Stored.{formulaC, tokensOf, deep, bytesAll, storedOf}
-use Rattle.wording.specs.Translation.{storing, answerBy, translationOf, storedBy, laidOn, outAfter}
+use Rattle.wording.specs.Translation.{holdable, storing, answerBy, translationOf, storedBy, laidOn, outAfter}
 use Rattle.wording.specs.Inner.Tokens.{tokensC}
 use Rattle.wording.specs.Inner.Walk.{noteAll, putAll, tally0, Outcome, ParsedAt, decideAt, decideOf, headed, Wrote}
 use Rattle.wording.proofs.Keeps.{OkOf}
@@ -147,13 +147,13 @@ pub record Fits (c : Condition) (room n k : ℕ) : Type 0 where
   pub size : n ≡ length (storedOf c)
   pub tokens : k ≡ length (tokensOf c)
   pub room-for : length (storedOf c) ≤ room
-  pub few : (leb (length (tokensOf c)) 64 && leb (deep (formulaC c)) 16) ≡ true
+  pub few : holdable c ≡ true
 
 fits : (room : ℕ) (c : Condition) (n k : ℕ) → Done n k ≡ storing room c → Fits c room n k
 unfolding storing need
-fits room c n k e = by (leb (length (tokensOf c)) 64 && leb (deep (formulaC c)) 16) (leb (length (storedOf c)) room) refl refl e
+fits room c n k e = by (holdable c) (leb (length (storedOf c)) room) refl refl e
   where
-    by : (x y : Bool) → (leb (length (tokensOf c)) 64 && leb (deep (formulaC c)) 16) ≡ x → leb (length (storedOf c)) room ≡ y
+    by : (x y : Bool) → holdable c ≡ x → leb (length (storedOf c)) room ≡ y
         → Done n k ≡ need x (Refused 17 0) (need y (Refused 8 0) (Done (length (storedOf c)) (length (tokensOf c)))) → Fits c room n k
     by true true f h g = record { size = cc; tokens = cc; room-for = leb-true (length (storedOf c)) room h; few = f }
     by true false f h g = let v : _≡_ {A = ℕ} 0 1 = cc in absurd (omega arith)

@@ -21,11 +21,11 @@ use Rattle.wording.specs.declared.Translated.{Translated}
 use Rattle.wording.specs.declared.Translated.the-variants.{Done, Refused}
 use Rattle.wording.specs.Grammar.{Condition, last, or, only, and, not, paren, ascii, textC, ValidC, InGrammar, Goes, Stops}
 use Rattle.wording.specs.Reader.{Reading, accepted, refused, reading}
-use Rattle.wording.specs.Stored.{operandOf, formulaC, tokensOf, deep, bytesAll, storedOf}
+use Rattle.wording.specs.Stored.{operandOf, tokensOf, bytesAll, storedOf}
 use Rattle.wording.specs.Meaning.{meansC}
-use Rattle.wording.specs.Translation.{storing, answerBy, translationOf, storedBy, laidOn, outAfter}
+use Rattle.wording.specs.Translation.{holdable, storing, answerBy, translationOf, storedBy, laidOn, outAfter}
 use Rattle.wording.proofs.Reading.{sound, complete, offset, refused-there}
-use Rattle.wording.proofs.Checked.{holdable, checked, alone, no-padding, stored-means}
+use Rattle.wording.proofs.Checked.{checked, alone, no-padding, stored-means}
 use Rattle.wording.proofs.Order.{sidesC, pushed, text-order, signs-and-bases}
 use Rattle.wording.proofs.Decides.{done-by}
 
@@ -43,7 +43,7 @@ sixteen s room k h = (λ e. to (reading s) refl (rw (le-leb (length s) 512 h) at
   where
     to : (x : Reading) → reading s ≡ x → answerBy room x ≡ Refused 16 k → Stops s k
     to (refused m) r e = offset s k (r ∙ ap refused (let v : m ≡ k = cc in v))
-    to (accepted c) r e = absurd (by (leb (length (tokensOf c)) 64 && leb (deep (formulaC c)) 16) (leb (length (storedOf c)) room) e)
+    to (accepted c) r e = absurd (by (holdable c) (leb (length (storedOf c)) room) e)
       where
         by : (x y : Bool) → need x (Refused 17 0) (need y (Refused 8 0) (Done (length (storedOf c)) (length (tokensOf c)))) ≡ Refused 16 k → ⊥
         by false y e = let v : _≡_ {A = ℕ} 16 17 = cc in omega arith

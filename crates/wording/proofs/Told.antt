@@ -14,10 +14,9 @@ use Rattle.wording.specs.declared.Translated.the-variants.{Done, Refused
 use Rattle.wording.specs.Grammar.{Condition, textC}
 use Rattle.wording.specs.Reader.{Reading, accepted, refused, reading}
 use Rattle.wording.specs.Stored.{formulaC, tokensOf, deep, storedOf}
-use Rattle.wording.specs.Translation.{storing, answerBy, translationOf}
+use Rattle.wording.specs.Translation.{holdable, storing, answerBy, translationOf}
 use Rattle.wording.proofs.Flat.{tokens-flat}
 use Rattle.wording.proofs.Reading.{sound, offset}
-use Rattle.wording.proofs.Checked.{holdable}
 use Rattle.wording.proofs.Small.{small-C}
 use Rattle.wording.proofs.Decides.{stored-length}
 

@@ -1,6 +1,6 @@
 -- The whole translation (RULES 12.6): what is answered for a text, and what stands in the lent bytes afterwards.
 use Prim.Native.Nat.{ℕ}
-use mathlib.Core.Bool.{_&&_}
+use mathlib.Core.Bool.{Bool, _&&_}
 use mathlib.Core.List.{List, []}
 use lib.ListN.{length}
 use lib.Dec.{leb}
@@ -12,10 +12,14 @@ use Rattle.wording.specs.Grammar.{Condition}
 use Rattle.wording.specs.Reader.{Reading, accepted, refused, reading}
 use Rattle.wording.specs.Stored.{formulaC, tokensOf, deep, storedOf}
 
+-- at most 64 tokens, at most 16 deep
+abbrev pub holdable : Condition → Bool
+holdable c = leb (length (tokensOf c)) 64 && leb (deep (formulaC c)) 16
+
 -- 17, over 64 tokens or depth 16; 8, the stored form has no room
 unfoldable pub storing : ℕ → Condition → Translated
 storing room c =
-    need (leb (length (tokensOf c)) 64 && leb (deep (formulaC c)) 16) (Refused 17 0)
+    need (holdable c) (Refused 17 0)
     (need (leb (length (storedOf c)) room) (Refused 8 0)
     (Done (length (storedOf c)) (length (tokensOf c))))
 

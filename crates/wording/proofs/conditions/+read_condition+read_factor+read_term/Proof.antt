@@ -68,7 +68,9 @@ abbrev read-term-below : ℕ → In 2 read-term-kinds.ps
 read-term-below t =
     and 2 read-term-kinds.ps (falls 2 read-term-kinds.ps _<_ μ-read-term t) read-term.Pre
 
-read-condition-read-term-requires : (t : ℕ) → read-condition-lts.Need-read-term-requires (
+-- what each function's calls ask and promise
+abbrev read-condition-calls : ℕ → read-condition-lts.Claims
+read-condition-calls t = (
   read-term-below t,
   read-term.Post,
   join-reads.Asked,
@@ -77,55 +79,47 @@ read-condition-read-term-requires : (t : ℕ) → read-condition-lts.Need-read-t
   byte-is-reads.Learnt,
   read-condition-below t,
   read-condition.Post,
-) (read-condition-at t) read-condition.Post
+)
+
+abbrev read-factor-calls : ℕ → read-factor-lts.Claims
+read-factor-calls t = (
+  byte-is-reads.Asked,
+  byte-is-reads.Learnt,
+  read-factor-below t,
+  read-factor.Post,
+  emit-op-reads.Asked,
+  emit-op-reads.Learnt,
+  read-comparison-reads.Asked,
+  read-comparison-reads.Learnt,
+  read-condition-below t,
+  read-condition.Post,
+)
+
+abbrev read-term-calls : ℕ → read-term-lts.Claims
+read-term-calls t = (
+  read-factor-below t,
+  read-factor.Post,
+  join-reads.Asked,
+  join-reads.Learnt,
+  byte-is-reads.Asked,
+  byte-is-reads.Learnt,
+  read-term-below t,
+  read-term.Post,
+)
+
+read-condition-read-term-requires : (t : ℕ) → read-condition-lts.Need-read-term-requires (read-condition-calls t) (read-condition-at t) read-condition.Post
 read-condition-read-term-requires t c κs = search needs
 
-read-condition-enum-known-t : (t : ℕ) → read-condition-lts.Need-enum-known-t (
-  read-term-below t,
-  read-term.Post,
-  join-reads.Asked,
-  join-reads.Learnt,
-  byte-is-reads.Asked,
-  byte-is-reads.Learnt,
-  read-condition-below t,
-  read-condition.Post,
-) (read-condition-at t) read-condition.Post
+read-condition-enum-known-t : (t : ℕ) → read-condition-lts.Need-enum-known-t (read-condition-calls t) (read-condition-at t) read-condition.Post
 read-condition-enum-known-t t c = search needs
 
-read-condition-enum-told : (t : ℕ) → read-condition-lts.Need-enum-told (
-  read-term-below t,
-  read-term.Post,
-  join-reads.Asked,
-  join-reads.Learnt,
-  byte-is-reads.Asked,
-  byte-is-reads.Learnt,
-  read-condition-below t,
-  read-condition.Post,
-) (read-condition-at t) read-condition.Post
+read-condition-enum-told : (t : ℕ) → read-condition-lts.Need-enum-told (read-condition-calls t) (read-condition-at t) read-condition.Post
 read-condition-enum-told t c = search needs
 
-read-condition-same-length : (t : ℕ) → read-condition-lts.Need-same-length (
-  read-term-below t,
-  read-term.Post,
-  join-reads.Asked,
-  join-reads.Learnt,
-  byte-is-reads.Asked,
-  byte-is-reads.Learnt,
-  read-condition-below t,
-  read-condition.Post,
-) (read-condition-at t) read-condition.Post
+read-condition-same-length : (t : ℕ) → read-condition-lts.Need-same-length (read-condition-calls t) (read-condition-at t) read-condition.Post
 read-condition-same-length t c = search needs
 
-read-condition-returns : (t : ℕ) → read-condition-lts.Need-returns (
-  read-term-below t,
-  read-term.Post,
-  join-reads.Asked,
-  join-reads.Learnt,
-  byte-is-reads.Asked,
-  byte-is-reads.Learnt,
-  read-condition-below t,
-  read-condition.Post,
-) (read-condition-at t) read-condition.Post
+read-condition-returns : (t : ℕ) → read-condition-lts.Need-returns (read-condition-calls t) (read-condition-at t) read-condition.Post
 read-condition-returns t c =
     let at-read-term = c .before .before .before .before in
     let at-args = at-read-term .before .before .before .before in
@@ -133,52 +127,16 @@ read-condition-returns t c =
     let s = now (a .s) in
     condition-bad s (a .at) (a .depth) (at-args .pre .1 .0) (a .joined) (a .w) (now (a .out)) _ _ (at-read-term .read-term .ensures) _ (c .enum-told .given .1)
 
-read-condition-join-requires : (t : ℕ) → read-condition-lts.Need-join-requires (
-  read-term-below t,
-  read-term.Post,
-  join-reads.Asked,
-  join-reads.Learnt,
-  byte-is-reads.Asked,
-  byte-is-reads.Learnt,
-  read-condition-below t,
-  read-condition.Post,
-) (read-condition-at t) read-condition.Post
+read-condition-join-requires : (t : ℕ) → read-condition-lts.Need-join-requires (read-condition-calls t) (read-condition-at t) read-condition.Post
 read-condition-join-requires t c κs = search needs
 
-read-condition-byte-is-requires : (t : ℕ) → read-condition-lts.Need-byte-is-requires (
-  read-term-below t,
-  read-term.Post,
-  join-reads.Asked,
-  join-reads.Learnt,
-  byte-is-reads.Asked,
-  byte-is-reads.Learnt,
-  read-condition-below t,
-  read-condition.Post,
-) (read-condition-at t) read-condition.Post
+read-condition-byte-is-requires : (t : ℕ) → read-condition-lts.Need-byte-is-requires (read-condition-calls t) (read-condition-at t) read-condition.Post
 read-condition-byte-is-requires t c κs = search needs
 
-read-condition-same-length-2 : (t : ℕ) → read-condition-lts.Need-same-length-2 (
-  read-term-below t,
-  read-term.Post,
-  join-reads.Asked,
-  join-reads.Learnt,
-  byte-is-reads.Asked,
-  byte-is-reads.Learnt,
-  read-condition-below t,
-  read-condition.Post,
-) (read-condition-at t) read-condition.Post
+read-condition-same-length-2 : (t : ℕ) → read-condition-lts.Need-same-length-2 (read-condition-calls t) (read-condition-at t) read-condition.Post
 read-condition-same-length-2 t c = search needs
 
-read-condition-returns-2 : (t : ℕ) → read-condition-lts.Need-returns-2 (
-  read-term-below t,
-  read-term.Post,
-  join-reads.Asked,
-  join-reads.Learnt,
-  byte-is-reads.Asked,
-  byte-is-reads.Learnt,
-  read-condition-below t,
-  read-condition.Post,
-) (read-condition-at t) read-condition.Post
+read-condition-returns-2 : (t : ℕ) → read-condition-lts.Need-returns-2 (read-condition-calls t) (read-condition-at t) read-condition.Post
 read-condition-returns-2 t c =
     let at-byte-is = c .before in
     let at-join = at-byte-is .before .before .before in
@@ -191,66 +149,21 @@ read-condition-returns-2 t c =
     _ _ (at-t .t .given .1) _ _ (at-join .join .ensures)
     (sym (at-byte-is .byte-is .ensures .is) ∙ not-true _ (c .if1 .taken))
 
-read-condition-add-byte-is : (t : ℕ) → read-condition-lts.Need-add-byte-is (
-  read-term-below t,
-  read-term.Post,
-  join-reads.Asked,
-  join-reads.Learnt,
-  byte-is-reads.Asked,
-  byte-is-reads.Learnt,
-  read-condition-below t,
-  read-condition.Post,
-) (read-condition-at t) read-condition.Post
+read-condition-add-byte-is : (t : ℕ) → read-condition-lts.Need-add-byte-is (read-condition-calls t) (read-condition-at t) read-condition.Post
 read-condition-add-byte-is t c =
     omega (arith, (c .before) .byte-is .ensures .inside (not-false _ (c .if1 .left)))
 
-read-condition-byte-is-requires-2 : (t : ℕ) → read-condition-lts.Need-byte-is-requires-2 (
-  read-term-below t,
-  read-term.Post,
-  join-reads.Asked,
-  join-reads.Learnt,
-  byte-is-reads.Asked,
-  byte-is-reads.Learnt,
-  read-condition-below t,
-  read-condition.Post,
-) (read-condition-at t) read-condition.Post
+read-condition-byte-is-requires-2 : (t : ℕ) → read-condition-lts.Need-byte-is-requires-2 (read-condition-calls t) (read-condition-at t) read-condition.Post
 read-condition-byte-is-requires-2 t c κs = search needs
 
-read-condition-add-t18 : (t : ℕ) → read-condition-lts.Need-add-t18 (
-  read-term-below t,
-  read-term.Post,
-  join-reads.Asked,
-  join-reads.Learnt,
-  byte-is-reads.Asked,
-  byte-is-reads.Learnt,
-  read-condition-below t,
-  read-condition.Post,
-) (read-condition-at t) read-condition.Post
+read-condition-add-t18 : (t : ℕ) → read-condition-lts.Need-add-t18 (read-condition-calls t) (read-condition-at t) read-condition.Post
 read-condition-add-t18 t c =
     omega (arith, (c .before .before .before) .byte-is .ensures .inside (not-false _ ((c .before .before) .if1 .left)))
 
-read-condition-same-length-3 : (t : ℕ) → read-condition-lts.Need-same-length-3 (
-  read-term-below t,
-  read-term.Post,
-  join-reads.Asked,
-  join-reads.Learnt,
-  byte-is-reads.Asked,
-  byte-is-reads.Learnt,
-  read-condition-below t,
-  read-condition.Post,
-) (read-condition-at t) read-condition.Post
+read-condition-same-length-3 : (t : ℕ) → read-condition-lts.Need-same-length-3 (read-condition-calls t) (read-condition-at t) read-condition.Post
 read-condition-same-length-3 t c = search needs
 
-read-condition-returns-3 : (t : ℕ) → read-condition-lts.Need-returns-3 (
-  read-term-below t,
-  read-term.Post,
-  join-reads.Asked,
-  join-reads.Learnt,
-  byte-is-reads.Asked,
-  byte-is-reads.Learnt,
-  read-condition-below t,
-  read-condition.Post,
-) (read-condition-at t) read-condition.Post
+read-condition-returns-3 : (t : ℕ) → read-condition-lts.Need-returns-3 (read-condition-calls t) (read-condition-at t) read-condition.Post
 read-condition-returns-3 t c =
     let at-byte-is2 = c .before in
     let at-if1 = at-byte-is2 .before in
@@ -266,29 +179,11 @@ read-condition-returns-3 t c =
     (sym (at-byte-is .byte-is .ensures .is) ∙ not-false _ (at-if1 .if1 .left)) (at-byte-is .byte-is .ensures .inside (not-false _ (at-if1 .if1 .left)))
     (sym (at-byte-is2 .byte-is2 .ensures .is) ∙ not-true _ (c .if2 .taken))
 
-read-condition-add-read-condition : (t : ℕ) → read-condition-lts.Need-add-read-condition (
-  read-term-below t,
-  read-term.Post,
-  join-reads.Asked,
-  join-reads.Learnt,
-  byte-is-reads.Asked,
-  byte-is-reads.Learnt,
-  read-condition-below t,
-  read-condition.Post,
-) (read-condition-at t) read-condition.Post
+read-condition-add-read-condition : (t : ℕ) → read-condition-lts.Need-add-read-condition (read-condition-calls t) (read-condition-at t) read-condition.Post
 read-condition-add-read-condition t c =
     omega (arith, (c .before) .byte-is2 .ensures .inside (not-false _ (c .if2 .left)))
 
-read-condition-read-condition-requires : (t : ℕ) → read-condition-lts.Need-read-condition-requires (
-  read-term-below t,
-  read-term.Post,
-  join-reads.Asked,
-  join-reads.Learnt,
-  byte-is-reads.Asked,
-  byte-is-reads.Learnt,
-  read-condition-below t,
-  read-condition.Post,
-) (read-condition-at t) read-condition.Post
+read-condition-read-condition-requires : (t : ℕ) → read-condition-lts.Need-read-condition-requires (read-condition-calls t) (read-condition-at t) read-condition.Post
 read-condition-read-condition-requires t c κs =
     let at-if2 = c .before in
     let at-byte-is2 = at-if2 .before in
@@ -301,28 +196,10 @@ read-condition-read-condition-requires t c κs =
     let inside = at-byte-is2 .byte-is2 .ensures .inside (not-false _ (at-if2 .if2 .left)) in
     (omega (arith, inside, placed-at, at-args .pre), (omega (arith, inside), at-args .pre .1 .1))
 
-read-condition-same-length-4 : (t : ℕ) → read-condition-lts.Need-same-length-4 (
-  read-term-below t,
-  read-term.Post,
-  join-reads.Asked,
-  join-reads.Learnt,
-  byte-is-reads.Asked,
-  byte-is-reads.Learnt,
-  read-condition-below t,
-  read-condition.Post,
-) (read-condition-at t) read-condition.Post
+read-condition-same-length-4 : (t : ℕ) → read-condition-lts.Need-same-length-4 (read-condition-calls t) (read-condition-at t) read-condition.Post
 read-condition-same-length-4 t c = search needs
 
-read-condition-returns-4 : (t : ℕ) → read-condition-lts.Need-returns-4 (
-  read-term-below t,
-  read-term.Post,
-  join-reads.Asked,
-  join-reads.Learnt,
-  byte-is-reads.Asked,
-  byte-is-reads.Learnt,
-  read-condition-below t,
-  read-condition.Post,
-) (read-condition-at t) read-condition.Post
+read-condition-returns-4 : (t : ℕ) → read-condition-lts.Need-returns-4 (read-condition-calls t) (read-condition-at t) read-condition.Post
 read-condition-returns-4 t c =
     let at-read-condition = c .before .before in
     let at-if2 = at-read-condition .before .before in
@@ -341,46 +218,13 @@ read-condition-returns-4 t c =
     (sym (at-byte-is2 .byte-is2 .ensures .is) ∙ not-false _ (at-if2 .if2 .left)) (at-byte-is2 .byte-is2 .ensures .inside (not-false _ (at-if2 .if2 .left)))
     _ _ (at-read-condition .read-condition .ensures)
 
-read-factor-byte-is-requires : (t : ℕ) → read-factor-lts.Need-byte-is-requires (
-  byte-is-reads.Asked,
-  byte-is-reads.Learnt,
-  read-factor-below t,
-  read-factor.Post,
-  emit-op-reads.Asked,
-  emit-op-reads.Learnt,
-  read-comparison-reads.Asked,
-  read-comparison-reads.Learnt,
-  read-condition-below t,
-  read-condition.Post,
-) (read-factor-at t) read-factor.Post
+read-factor-byte-is-requires : (t : ℕ) → read-factor-lts.Need-byte-is-requires (read-factor-calls t) (read-factor-at t) read-factor.Post
 read-factor-byte-is-requires t c κs = search needs
 
-read-factor-add-read-factor : (t : ℕ) → read-factor-lts.Need-add-read-factor (
-  byte-is-reads.Asked,
-  byte-is-reads.Learnt,
-  read-factor-below t,
-  read-factor.Post,
-  emit-op-reads.Asked,
-  emit-op-reads.Learnt,
-  read-comparison-reads.Asked,
-  read-comparison-reads.Learnt,
-  read-condition-below t,
-  read-condition.Post,
-) (read-factor-at t) read-factor.Post
+read-factor-add-read-factor : (t : ℕ) → read-factor-lts.Need-add-read-factor (read-factor-calls t) (read-factor-at t) read-factor.Post
 read-factor-add-read-factor t c = search needs
 
-read-factor-read-factor-requires : (t : ℕ) → read-factor-lts.Need-read-factor-requires (
-  byte-is-reads.Asked,
-  byte-is-reads.Learnt,
-  read-factor-below t,
-  read-factor.Post,
-  emit-op-reads.Asked,
-  emit-op-reads.Learnt,
-  read-comparison-reads.Asked,
-  read-comparison-reads.Learnt,
-  read-condition-below t,
-  read-condition.Post,
-) (read-factor-at t) read-factor.Post
+read-factor-read-factor-requires : (t : ℕ) → read-factor-lts.Need-read-factor-requires (read-factor-calls t) (read-factor-at t) read-factor.Post
 read-factor-read-factor-requires t c κs =
     let at-if1 = c .before in
     let at-byte-is = at-if1 .before in
@@ -388,60 +232,16 @@ read-factor-read-factor-requires t c κs =
     let inside = at-byte-is .byte-is .ensures .inside (at-if1 .if1 .taken) in
     (omega (arith, inside, at-args .pre), (omega (arith, inside), at-args .pre .1 .1))
 
-read-factor-enum-known-t : (t : ℕ) → read-factor-lts.Need-enum-known-t (
-  byte-is-reads.Asked,
-  byte-is-reads.Learnt,
-  read-factor-below t,
-  read-factor.Post,
-  emit-op-reads.Asked,
-  emit-op-reads.Learnt,
-  read-comparison-reads.Asked,
-  read-comparison-reads.Learnt,
-  read-condition-below t,
-  read-condition.Post,
-) (read-factor-at t) read-factor.Post
+read-factor-enum-known-t : (t : ℕ) → read-factor-lts.Need-enum-known-t (read-factor-calls t) (read-factor-at t) read-factor.Post
 read-factor-enum-known-t t c = search needs
 
-read-factor-enum-told : (t : ℕ) → read-factor-lts.Need-enum-told (
-  byte-is-reads.Asked,
-  byte-is-reads.Learnt,
-  read-factor-below t,
-  read-factor.Post,
-  emit-op-reads.Asked,
-  emit-op-reads.Learnt,
-  read-comparison-reads.Asked,
-  read-comparison-reads.Learnt,
-  read-condition-below t,
-  read-condition.Post,
-) (read-factor-at t) read-factor.Post
+read-factor-enum-told : (t : ℕ) → read-factor-lts.Need-enum-told (read-factor-calls t) (read-factor-at t) read-factor.Post
 read-factor-enum-told t c = search needs
 
-read-factor-same-length : (t : ℕ) → read-factor-lts.Need-same-length (
-  byte-is-reads.Asked,
-  byte-is-reads.Learnt,
-  read-factor-below t,
-  read-factor.Post,
-  emit-op-reads.Asked,
-  emit-op-reads.Learnt,
-  read-comparison-reads.Asked,
-  read-comparison-reads.Learnt,
-  read-condition-below t,
-  read-condition.Post,
-) (read-factor-at t) read-factor.Post
+read-factor-same-length : (t : ℕ) → read-factor-lts.Need-same-length (read-factor-calls t) (read-factor-at t) read-factor.Post
 read-factor-same-length t c = search needs
 
-read-factor-returns : (t : ℕ) → read-factor-lts.Need-returns (
-  byte-is-reads.Asked,
-  byte-is-reads.Learnt,
-  read-factor-below t,
-  read-factor.Post,
-  emit-op-reads.Asked,
-  emit-op-reads.Learnt,
-  read-comparison-reads.Asked,
-  read-comparison-reads.Learnt,
-  read-condition-below t,
-  read-condition.Post,
-) (read-factor-at t) read-factor.Post
+read-factor-returns : (t : ℕ) → read-factor-lts.Need-returns (read-factor-calls t) (read-factor-at t) read-factor.Post
 read-factor-returns t c =
     let at-read-factor = c .before .before .before .before in
     let at-if1 = at-read-factor .before .before in
@@ -453,46 +253,13 @@ read-factor-returns t c =
     (sym (at-byte-is .byte-is .ensures .is) ∙ at-if1 .if1 .taken) (at-byte-is .byte-is .ensures .inside (at-if1 .if1 .taken))
     _ _ (at-read-factor .read-factor .ensures) _ (c .enum-told .given .1)
 
-read-factor-emit-op-requires : (t : ℕ) → read-factor-lts.Need-emit-op-requires (
-  byte-is-reads.Asked,
-  byte-is-reads.Learnt,
-  read-factor-below t,
-  read-factor.Post,
-  emit-op-reads.Asked,
-  emit-op-reads.Learnt,
-  read-comparison-reads.Asked,
-  read-comparison-reads.Learnt,
-  read-condition-below t,
-  read-condition.Post,
-) (read-factor-at t) read-factor.Post
+read-factor-emit-op-requires : (t : ℕ) → read-factor-lts.Need-emit-op-requires (read-factor-calls t) (read-factor-at t) read-factor.Post
 read-factor-emit-op-requires t c κs = search needs
 
-read-factor-same-length-2 : (t : ℕ) → read-factor-lts.Need-same-length-2 (
-  byte-is-reads.Asked,
-  byte-is-reads.Learnt,
-  read-factor-below t,
-  read-factor.Post,
-  emit-op-reads.Asked,
-  emit-op-reads.Learnt,
-  read-comparison-reads.Asked,
-  read-comparison-reads.Learnt,
-  read-condition-below t,
-  read-condition.Post,
-) (read-factor-at t) read-factor.Post
+read-factor-same-length-2 : (t : ℕ) → read-factor-lts.Need-same-length-2 (read-factor-calls t) (read-factor-at t) read-factor.Post
 read-factor-same-length-2 t c = search needs
 
-read-factor-returns-2 : (t : ℕ) → read-factor-lts.Need-returns-2 (
-  byte-is-reads.Asked,
-  byte-is-reads.Learnt,
-  read-factor-below t,
-  read-factor.Post,
-  emit-op-reads.Asked,
-  emit-op-reads.Learnt,
-  read-comparison-reads.Asked,
-  read-comparison-reads.Learnt,
-  read-condition-below t,
-  read-condition.Post,
-) (read-factor-at t) read-factor.Post
+read-factor-returns-2 : (t : ℕ) → read-factor-lts.Need-returns-2 (read-factor-calls t) (read-factor-at t) read-factor.Post
 read-factor-returns-2 t c =
     let at-emit-op = c .before .before in
     let at-t = at-emit-op .before .before .before in
@@ -506,62 +273,18 @@ read-factor-returns-2 t c =
     (sym (at-byte-is .byte-is .ensures .is) ∙ at-if1 .if1 .taken) (at-byte-is .byte-is .ensures .inside (at-if1 .if1 .taken))
     _ _ (at-read-factor .read-factor .ensures) _ _ (at-t .t .given .1) _ _ (at-emit-op .emit-op .ensures .0) (at-emit-op .emit-op .ensures .1)
 
-read-factor-byte-is-requires-2 : (t : ℕ) → read-factor-lts.Need-byte-is-requires-2 (
-  byte-is-reads.Asked,
-  byte-is-reads.Learnt,
-  read-factor-below t,
-  read-factor.Post,
-  emit-op-reads.Asked,
-  emit-op-reads.Learnt,
-  read-comparison-reads.Asked,
-  read-comparison-reads.Learnt,
-  read-condition-below t,
-  read-condition.Post,
-) (read-factor-at t) read-factor.Post
+read-factor-byte-is-requires-2 : (t : ℕ) → read-factor-lts.Need-byte-is-requires-2 (read-factor-calls t) (read-factor-at t) read-factor.Post
 read-factor-byte-is-requires-2 t c κs = search needs
 
-read-factor-read-comparison-requires : (t : ℕ) → read-factor-lts.Need-read-comparison-requires (
-  byte-is-reads.Asked,
-  byte-is-reads.Learnt,
-  read-factor-below t,
-  read-factor.Post,
-  emit-op-reads.Asked,
-  emit-op-reads.Learnt,
-  read-comparison-reads.Asked,
-  read-comparison-reads.Learnt,
-  read-condition-below t,
-  read-condition.Post,
-) (read-factor-at t) read-factor.Post
+read-factor-read-comparison-requires : (t : ℕ) → read-factor-lts.Need-read-comparison-requires (read-factor-calls t) (read-factor-at t) read-factor.Post
 read-factor-read-comparison-requires t c κs =
     let at-args = c .before .before .before .before .before .before .before in
     at-args .pre .1
 
-read-factor-same-length-3 : (t : ℕ) → read-factor-lts.Need-same-length-3 (
-  byte-is-reads.Asked,
-  byte-is-reads.Learnt,
-  read-factor-below t,
-  read-factor.Post,
-  emit-op-reads.Asked,
-  emit-op-reads.Learnt,
-  read-comparison-reads.Asked,
-  read-comparison-reads.Learnt,
-  read-condition-below t,
-  read-condition.Post,
-) (read-factor-at t) read-factor.Post
+read-factor-same-length-3 : (t : ℕ) → read-factor-lts.Need-same-length-3 (read-factor-calls t) (read-factor-at t) read-factor.Post
 read-factor-same-length-3 t c = search needs
 
-read-factor-returns-3 : (t : ℕ) → read-factor-lts.Need-returns-3 (
-  byte-is-reads.Asked,
-  byte-is-reads.Learnt,
-  read-factor-below t,
-  read-factor.Post,
-  emit-op-reads.Asked,
-  emit-op-reads.Learnt,
-  read-comparison-reads.Asked,
-  read-comparison-reads.Learnt,
-  read-condition-below t,
-  read-condition.Post,
-) (read-factor-at t) read-factor.Post
+read-factor-returns-3 : (t : ℕ) → read-factor-lts.Need-returns-3 (read-factor-calls t) (read-factor-at t) read-factor.Post
 read-factor-returns-3 t c =
     let at-read-comparison = c .before .before in
     let at-if2 = at-read-comparison .before .before in
@@ -575,18 +298,7 @@ read-factor-returns-3 t c =
     (sym (at-byte-is .byte-is .ensures .is) ∙ at-if1 .if1 .left)
     (sym (at-byte-is2 .byte-is2 .ensures .is) ∙ not-true _ (at-if2 .if2 .taken)) _ _ (at-read-comparison .read-comparison .ensures)
 
-read-factor-returns-4 : (t : ℕ) → read-factor-lts.Need-returns-4 (
-  byte-is-reads.Asked,
-  byte-is-reads.Learnt,
-  read-factor-below t,
-  read-factor.Post,
-  emit-op-reads.Asked,
-  emit-op-reads.Learnt,
-  read-comparison-reads.Asked,
-  read-comparison-reads.Learnt,
-  read-condition-below t,
-  read-condition.Post,
-) (read-factor-at t) read-factor.Post
+read-factor-returns-4 : (t : ℕ) → read-factor-lts.Need-returns-4 (read-factor-calls t) (read-factor-at t) read-factor.Post
 read-factor-returns-4 t c =
     let at-if2 = c .before in
     let at-byte-is2 = at-if2 .before in
@@ -599,46 +311,13 @@ read-factor-returns-4 t c =
     (sym (at-byte-is .byte-is .ensures .is) ∙ at-if1 .if1 .left) (sym (at-byte-is2 .byte-is2 .ensures .is) ∙ not-false _ (at-if2 .if2 .left))
     (eq-eqb _ _ (c .if3 .taken)) _
 
-read-factor-add-read-condition : (t : ℕ) → read-factor-lts.Need-add-read-condition (
-  byte-is-reads.Asked,
-  byte-is-reads.Learnt,
-  read-factor-below t,
-  read-factor.Post,
-  emit-op-reads.Asked,
-  emit-op-reads.Learnt,
-  read-comparison-reads.Asked,
-  read-comparison-reads.Learnt,
-  read-condition-below t,
-  read-condition.Post,
-) (read-factor-at t) read-factor.Post
+read-factor-add-read-condition : (t : ℕ) → read-factor-lts.Need-add-read-condition (read-factor-calls t) (read-factor-at t) read-factor.Post
 read-factor-add-read-condition t c = search needs
 
-read-factor-sub-read-condition : (t : ℕ) → read-factor-lts.Need-sub-read-condition (
-  byte-is-reads.Asked,
-  byte-is-reads.Learnt,
-  read-factor-below t,
-  read-factor.Post,
-  emit-op-reads.Asked,
-  emit-op-reads.Learnt,
-  read-comparison-reads.Asked,
-  read-comparison-reads.Learnt,
-  read-condition-below t,
-  read-condition.Post,
-) (read-factor-at t) read-factor.Post
+read-factor-sub-read-condition : (t : ℕ) → read-factor-lts.Need-sub-read-condition (read-factor-calls t) (read-factor-at t) read-factor.Post
 read-factor-sub-read-condition t c = search needs
 
-read-factor-read-condition-requires : (t : ℕ) → read-factor-lts.Need-read-condition-requires (
-  byte-is-reads.Asked,
-  byte-is-reads.Learnt,
-  read-factor-below t,
-  read-factor.Post,
-  emit-op-reads.Asked,
-  emit-op-reads.Learnt,
-  read-comparison-reads.Asked,
-  read-comparison-reads.Learnt,
-  read-condition-below t,
-  read-condition.Post,
-) (read-factor-at t) read-factor.Post
+read-factor-read-condition-requires : (t : ℕ) → read-factor-lts.Need-read-condition-requires (read-factor-calls t) (read-factor-at t) read-factor.Post
 read-factor-read-condition-requires t c κs =
     let at-if2 = c .before .before in
     let at-byte-is2 = at-if2 .before in
@@ -646,60 +325,16 @@ read-factor-read-condition-requires t c κs =
     let inside = (at-byte-is2 .byte-is2 .ensures .inside (not-false _ (at-if2 .if2 .left))) in
     (omega (arith, inside, at-args .pre), (omega (arith, inside), at-args .pre .1 .1))
 
-read-factor-enum-known-t-2 : (t : ℕ) → read-factor-lts.Need-enum-known-t-2 (
-  byte-is-reads.Asked,
-  byte-is-reads.Learnt,
-  read-factor-below t,
-  read-factor.Post,
-  emit-op-reads.Asked,
-  emit-op-reads.Learnt,
-  read-comparison-reads.Asked,
-  read-comparison-reads.Learnt,
-  read-condition-below t,
-  read-condition.Post,
-) (read-factor-at t) read-factor.Post
+read-factor-enum-known-t-2 : (t : ℕ) → read-factor-lts.Need-enum-known-t-2 (read-factor-calls t) (read-factor-at t) read-factor.Post
 read-factor-enum-known-t-2 t c = search needs
 
-read-factor-enum-told-2 : (t : ℕ) → read-factor-lts.Need-enum-told-2 (
-  byte-is-reads.Asked,
-  byte-is-reads.Learnt,
-  read-factor-below t,
-  read-factor.Post,
-  emit-op-reads.Asked,
-  emit-op-reads.Learnt,
-  read-comparison-reads.Asked,
-  read-comparison-reads.Learnt,
-  read-condition-below t,
-  read-condition.Post,
-) (read-factor-at t) read-factor.Post
+read-factor-enum-told-2 : (t : ℕ) → read-factor-lts.Need-enum-told-2 (read-factor-calls t) (read-factor-at t) read-factor.Post
 read-factor-enum-told-2 t c = search needs
 
-read-factor-same-length-4 : (t : ℕ) → read-factor-lts.Need-same-length-4 (
-  byte-is-reads.Asked,
-  byte-is-reads.Learnt,
-  read-factor-below t,
-  read-factor.Post,
-  emit-op-reads.Asked,
-  emit-op-reads.Learnt,
-  read-comparison-reads.Asked,
-  read-comparison-reads.Learnt,
-  read-condition-below t,
-  read-condition.Post,
-) (read-factor-at t) read-factor.Post
+read-factor-same-length-4 : (t : ℕ) → read-factor-lts.Need-same-length-4 (read-factor-calls t) (read-factor-at t) read-factor.Post
 read-factor-same-length-4 t c = search needs
 
-read-factor-returns-5 : (t : ℕ) → read-factor-lts.Need-returns-5 (
-  byte-is-reads.Asked,
-  byte-is-reads.Learnt,
-  read-factor-below t,
-  read-factor.Post,
-  emit-op-reads.Asked,
-  emit-op-reads.Learnt,
-  read-comparison-reads.Asked,
-  read-comparison-reads.Learnt,
-  read-condition-below t,
-  read-condition.Post,
-) (read-factor-at t) read-factor.Post
+read-factor-returns-5 : (t : ℕ) → read-factor-lts.Need-returns-5 (read-factor-calls t) (read-factor-at t) read-factor.Post
 read-factor-returns-5 t c =
     let at-read-condition = c .before .before .before .before in
     let at-if3 = at-read-condition .before .before in
@@ -714,61 +349,17 @@ read-factor-returns-5 t c =
     (sym (at-byte-is .byte-is .ensures .is) ∙ at-if1 .if1 .left) (sym (at-byte-is2 .byte-is2 .ensures .is) ∙ not-false _ (at-if2 .if2 .left))
     (ne-eqb _ _ (at-if3 .if3 .left)) (at-byte-is2 .byte-is2 .ensures .inside (not-false _ (at-if2 .if2 .left))) _ _ (at-read-condition .read-condition .ensures) _ (c .enum-told2 .given .1)
 
-read-factor-byte-is-requires-3 : (t : ℕ) → read-factor-lts.Need-byte-is-requires-3 (
-  byte-is-reads.Asked,
-  byte-is-reads.Learnt,
-  read-factor-below t,
-  read-factor.Post,
-  emit-op-reads.Asked,
-  emit-op-reads.Learnt,
-  read-comparison-reads.Asked,
-  read-comparison-reads.Learnt,
-  read-condition-below t,
-  read-condition.Post,
-) (read-factor-at t) read-factor.Post
+read-factor-byte-is-requires-3 : (t : ℕ) → read-factor-lts.Need-byte-is-requires-3 (read-factor-calls t) (read-factor-at t) read-factor.Post
 read-factor-byte-is-requires-3 t c κs = search needs
 
-read-factor-add-t28 : (t : ℕ) → read-factor-lts.Need-add-t28 (
-  byte-is-reads.Asked,
-  byte-is-reads.Learnt,
-  read-factor-below t,
-  read-factor.Post,
-  emit-op-reads.Asked,
-  emit-op-reads.Learnt,
-  read-comparison-reads.Asked,
-  read-comparison-reads.Learnt,
-  read-condition-below t,
-  read-condition.Post,
-) (read-factor-at t) read-factor.Post
+read-factor-add-t28 : (t : ℕ) → read-factor-lts.Need-add-t28 (read-factor-calls t) (read-factor-at t) read-factor.Post
 read-factor-add-t28 t c =
     omega (arith, (c .before) .byte-is3 .ensures .inside (c .if4 .taken))
 
-read-factor-same-length-5 : (t : ℕ) → read-factor-lts.Need-same-length-5 (
-  byte-is-reads.Asked,
-  byte-is-reads.Learnt,
-  read-factor-below t,
-  read-factor.Post,
-  emit-op-reads.Asked,
-  emit-op-reads.Learnt,
-  read-comparison-reads.Asked,
-  read-comparison-reads.Learnt,
-  read-condition-below t,
-  read-condition.Post,
-) (read-factor-at t) read-factor.Post
+read-factor-same-length-5 : (t : ℕ) → read-factor-lts.Need-same-length-5 (read-factor-calls t) (read-factor-at t) read-factor.Post
 read-factor-same-length-5 t c = search needs
 
-read-factor-returns-6 : (t : ℕ) → read-factor-lts.Need-returns-6 (
-  byte-is-reads.Asked,
-  byte-is-reads.Learnt,
-  read-factor-below t,
-  read-factor.Post,
-  emit-op-reads.Asked,
-  emit-op-reads.Learnt,
-  read-comparison-reads.Asked,
-  read-comparison-reads.Learnt,
-  read-condition-below t,
-  read-condition.Post,
-) (read-factor-at t) read-factor.Post
+read-factor-returns-6 : (t : ℕ) → read-factor-lts.Need-returns-6 (read-factor-calls t) (read-factor-at t) read-factor.Post
 read-factor-returns-6 t c =
     let at-byte-is3 = c .before in
     let at-t2 = at-byte-is3 .before .before in
@@ -786,32 +377,10 @@ read-factor-returns-6 t c =
     (ne-eqb _ _ (at-if3 .if3 .left)) (at-byte-is2 .byte-is2 .ensures .inside (not-false _ (at-if2 .if2 .left))) _ _ (at-read-condition .read-condition .ensures)
     _ _ (at-t2 .t2 .given .1) (sym (at-byte-is3 .byte-is3 .ensures .is) ∙ c .if4 .taken) (at-byte-is3 .byte-is3 .ensures .inside (c .if4 .taken))
 
-read-factor-same-length-6 : (t : ℕ) → read-factor-lts.Need-same-length-6 (
-  byte-is-reads.Asked,
-  byte-is-reads.Learnt,
-  read-factor-below t,
-  read-factor.Post,
-  emit-op-reads.Asked,
-  emit-op-reads.Learnt,
-  read-comparison-reads.Asked,
-  read-comparison-reads.Learnt,
-  read-condition-below t,
-  read-condition.Post,
-) (read-factor-at t) read-factor.Post
+read-factor-same-length-6 : (t : ℕ) → read-factor-lts.Need-same-length-6 (read-factor-calls t) (read-factor-at t) read-factor.Post
 read-factor-same-length-6 t c = search needs
 
-read-factor-returns-7 : (t : ℕ) → read-factor-lts.Need-returns-7 (
-  byte-is-reads.Asked,
-  byte-is-reads.Learnt,
-  read-factor-below t,
-  read-factor.Post,
-  emit-op-reads.Asked,
-  emit-op-reads.Learnt,
-  read-comparison-reads.Asked,
-  read-comparison-reads.Learnt,
-  read-condition-below t,
-  read-condition.Post,
-) (read-factor-at t) read-factor.Post
+read-factor-returns-7 : (t : ℕ) → read-factor-lts.Need-returns-7 (read-factor-calls t) (read-factor-at t) read-factor.Post
 read-factor-returns-7 t c =
     let at-byte-is3 = c .before in
     let at-t2 = at-byte-is3 .before .before in
@@ -829,64 +398,19 @@ read-factor-returns-7 t c =
     (ne-eqb _ _ (at-if3 .if3 .left)) (at-byte-is2 .byte-is2 .ensures .inside (not-false _ (at-if2 .if2 .left))) _ _ (at-read-condition .read-condition .ensures)
     _ _ (at-t2 .t2 .given .1) (sym (at-byte-is3 .byte-is3 .ensures .is) ∙ c .if4 .left)
 
-read-term-read-factor-requires : (t : ℕ) → read-term-lts.Need-read-factor-requires (
-  read-factor-below t,
-  read-factor.Post,
-  join-reads.Asked,
-  join-reads.Learnt,
-  byte-is-reads.Asked,
-  byte-is-reads.Learnt,
-  read-term-below t,
-  read-term.Post,
-) (read-term-at t) read-term.Post
+read-term-read-factor-requires : (t : ℕ) → read-term-lts.Need-read-factor-requires (read-term-calls t) (read-term-at t) read-term.Post
 read-term-read-factor-requires t c κs = search needs
 
-read-term-enum-known-t : (t : ℕ) → read-term-lts.Need-enum-known-t (
-  read-factor-below t,
-  read-factor.Post,
-  join-reads.Asked,
-  join-reads.Learnt,
-  byte-is-reads.Asked,
-  byte-is-reads.Learnt,
-  read-term-below t,
-  read-term.Post,
-) (read-term-at t) read-term.Post
+read-term-enum-known-t : (t : ℕ) → read-term-lts.Need-enum-known-t (read-term-calls t) (read-term-at t) read-term.Post
 read-term-enum-known-t t c = search needs
 
-read-term-enum-told : (t : ℕ) → read-term-lts.Need-enum-told (
-  read-factor-below t,
-  read-factor.Post,
-  join-reads.Asked,
-  join-reads.Learnt,
-  byte-is-reads.Asked,
-  byte-is-reads.Learnt,
-  read-term-below t,
-  read-term.Post,
-) (read-term-at t) read-term.Post
+read-term-enum-told : (t : ℕ) → read-term-lts.Need-enum-told (read-term-calls t) (read-term-at t) read-term.Post
 read-term-enum-told t c = search needs
 
-read-term-same-length : (t : ℕ) → read-term-lts.Need-same-length (
-  read-factor-below t,
-  read-factor.Post,
-  join-reads.Asked,
-  join-reads.Learnt,
-  byte-is-reads.Asked,
-  byte-is-reads.Learnt,
-  read-term-below t,
-  read-term.Post,
-) (read-term-at t) read-term.Post
+read-term-same-length : (t : ℕ) → read-term-lts.Need-same-length (read-term-calls t) (read-term-at t) read-term.Post
 read-term-same-length t c = search needs
 
-read-term-returns : (t : ℕ) → read-term-lts.Need-returns (
-  read-factor-below t,
-  read-factor.Post,
-  join-reads.Asked,
-  join-reads.Learnt,
-  byte-is-reads.Asked,
-  byte-is-reads.Learnt,
-  read-term-below t,
-  read-term.Post,
-) (read-term-at t) read-term.Post
+read-term-returns : (t : ℕ) → read-term-lts.Need-returns (read-term-calls t) (read-term-at t) read-term.Post
 read-term-returns t c =
     let at-read-factor = c .before .before .before .before in
     let at-args = at-read-factor .before .before .before .before in
@@ -894,52 +418,16 @@ read-term-returns t c =
     let s = now (a .s) in
     term-bad s (a .at) (a .depth) (at-args .pre .1 .0) (a .joined) (a .w) (now (a .out)) _ _ (at-read-factor .read-factor .ensures) _ (c .enum-told .given .1)
 
-read-term-join-requires : (t : ℕ) → read-term-lts.Need-join-requires (
-  read-factor-below t,
-  read-factor.Post,
-  join-reads.Asked,
-  join-reads.Learnt,
-  byte-is-reads.Asked,
-  byte-is-reads.Learnt,
-  read-term-below t,
-  read-term.Post,
-) (read-term-at t) read-term.Post
+read-term-join-requires : (t : ℕ) → read-term-lts.Need-join-requires (read-term-calls t) (read-term-at t) read-term.Post
 read-term-join-requires t c κs = search needs
 
-read-term-byte-is-requires : (t : ℕ) → read-term-lts.Need-byte-is-requires (
-  read-factor-below t,
-  read-factor.Post,
-  join-reads.Asked,
-  join-reads.Learnt,
-  byte-is-reads.Asked,
-  byte-is-reads.Learnt,
-  read-term-below t,
-  read-term.Post,
-) (read-term-at t) read-term.Post
+read-term-byte-is-requires : (t : ℕ) → read-term-lts.Need-byte-is-requires (read-term-calls t) (read-term-at t) read-term.Post
 read-term-byte-is-requires t c κs = search needs
 
-read-term-same-length-2 : (t : ℕ) → read-term-lts.Need-same-length-2 (
-  read-factor-below t,
-  read-factor.Post,
-  join-reads.Asked,
-  join-reads.Learnt,
-  byte-is-reads.Asked,
-  byte-is-reads.Learnt,
-  read-term-below t,
-  read-term.Post,
-) (read-term-at t) read-term.Post
+read-term-same-length-2 : (t : ℕ) → read-term-lts.Need-same-length-2 (read-term-calls t) (read-term-at t) read-term.Post
 read-term-same-length-2 t c = search needs
 
-read-term-returns-2 : (t : ℕ) → read-term-lts.Need-returns-2 (
-  read-factor-below t,
-  read-factor.Post,
-  join-reads.Asked,
-  join-reads.Learnt,
-  byte-is-reads.Asked,
-  byte-is-reads.Learnt,
-  read-term-below t,
-  read-term.Post,
-) (read-term-at t) read-term.Post
+read-term-returns-2 : (t : ℕ) → read-term-lts.Need-returns-2 (read-term-calls t) (read-term-at t) read-term.Post
 read-term-returns-2 t c =
     let at-byte-is = c .before in
     let at-join = at-byte-is .before .before .before in
@@ -952,66 +440,21 @@ read-term-returns-2 t c =
     _ _ (at-t .t .given .1) _ _ (at-join .join .ensures)
     (sym (at-byte-is .byte-is .ensures .is) ∙ not-true _ (c .if1 .taken))
 
-read-term-add-byte-is : (t : ℕ) → read-term-lts.Need-add-byte-is (
-  read-factor-below t,
-  read-factor.Post,
-  join-reads.Asked,
-  join-reads.Learnt,
-  byte-is-reads.Asked,
-  byte-is-reads.Learnt,
-  read-term-below t,
-  read-term.Post,
-) (read-term-at t) read-term.Post
+read-term-add-byte-is : (t : ℕ) → read-term-lts.Need-add-byte-is (read-term-calls t) (read-term-at t) read-term.Post
 read-term-add-byte-is t c =
     omega (arith, (c .before) .byte-is .ensures .inside (not-false _ (c .if1 .left)))
 
-read-term-byte-is-requires-2 : (t : ℕ) → read-term-lts.Need-byte-is-requires-2 (
-  read-factor-below t,
-  read-factor.Post,
-  join-reads.Asked,
-  join-reads.Learnt,
-  byte-is-reads.Asked,
-  byte-is-reads.Learnt,
-  read-term-below t,
-  read-term.Post,
-) (read-term-at t) read-term.Post
+read-term-byte-is-requires-2 : (t : ℕ) → read-term-lts.Need-byte-is-requires-2 (read-term-calls t) (read-term-at t) read-term.Post
 read-term-byte-is-requires-2 t c κs = search needs
 
-read-term-add-t18 : (t : ℕ) → read-term-lts.Need-add-t18 (
-  read-factor-below t,
-  read-factor.Post,
-  join-reads.Asked,
-  join-reads.Learnt,
-  byte-is-reads.Asked,
-  byte-is-reads.Learnt,
-  read-term-below t,
-  read-term.Post,
-) (read-term-at t) read-term.Post
+read-term-add-t18 : (t : ℕ) → read-term-lts.Need-add-t18 (read-term-calls t) (read-term-at t) read-term.Post
 read-term-add-t18 t c =
     omega (arith, (c .before .before .before) .byte-is .ensures .inside (not-false _ ((c .before .before) .if1 .left)))
 
-read-term-same-length-3 : (t : ℕ) → read-term-lts.Need-same-length-3 (
-  read-factor-below t,
-  read-factor.Post,
-  join-reads.Asked,
-  join-reads.Learnt,
-  byte-is-reads.Asked,
-  byte-is-reads.Learnt,
-  read-term-below t,
-  read-term.Post,
-) (read-term-at t) read-term.Post
+read-term-same-length-3 : (t : ℕ) → read-term-lts.Need-same-length-3 (read-term-calls t) (read-term-at t) read-term.Post
 read-term-same-length-3 t c = search needs
 
-read-term-returns-3 : (t : ℕ) → read-term-lts.Need-returns-3 (
-  read-factor-below t,
-  read-factor.Post,
-  join-reads.Asked,
-  join-reads.Learnt,
-  byte-is-reads.Asked,
-  byte-is-reads.Learnt,
-  read-term-below t,
-  read-term.Post,
-) (read-term-at t) read-term.Post
+read-term-returns-3 : (t : ℕ) → read-term-lts.Need-returns-3 (read-term-calls t) (read-term-at t) read-term.Post
 read-term-returns-3 t c =
     let at-byte-is2 = c .before in
     let at-if1 = at-byte-is2 .before in
@@ -1027,29 +470,11 @@ read-term-returns-3 t c =
     (sym (at-byte-is .byte-is .ensures .is) ∙ not-false _ (at-if1 .if1 .left)) (at-byte-is .byte-is .ensures .inside (not-false _ (at-if1 .if1 .left)))
     (sym (at-byte-is2 .byte-is2 .ensures .is) ∙ not-true _ (c .if2 .taken))
 
-read-term-add-read-term : (t : ℕ) → read-term-lts.Need-add-read-term (
-  read-factor-below t,
-  read-factor.Post,
-  join-reads.Asked,
-  join-reads.Learnt,
-  byte-is-reads.Asked,
-  byte-is-reads.Learnt,
-  read-term-below t,
-  read-term.Post,
-) (read-term-at t) read-term.Post
+read-term-add-read-term : (t : ℕ) → read-term-lts.Need-add-read-term (read-term-calls t) (read-term-at t) read-term.Post
 read-term-add-read-term t c =
     omega (arith, (c .before) .byte-is2 .ensures .inside (not-false _ (c .if2 .left)))
 
-read-term-read-term-requires : (t : ℕ) → read-term-lts.Need-read-term-requires (
-  read-factor-below t,
-  read-factor.Post,
-  join-reads.Asked,
-  join-reads.Learnt,
-  byte-is-reads.Asked,
-  byte-is-reads.Learnt,
-  read-term-below t,
-  read-term.Post,
-) (read-term-at t) read-term.Post
+read-term-read-term-requires : (t : ℕ) → read-term-lts.Need-read-term-requires (read-term-calls t) (read-term-at t) read-term.Post
 read-term-read-term-requires t c κs =
     let at-if2 = c .before in
     let at-byte-is2 = at-if2 .before in
@@ -1062,28 +487,10 @@ read-term-read-term-requires t c κs =
     let inside = at-byte-is2 .byte-is2 .ensures .inside (not-false _ (at-if2 .if2 .left)) in
     (omega (arith, inside, placed-at, at-args .pre), (omega (arith, inside), at-args .pre .1 .1))
 
-read-term-same-length-4 : (t : ℕ) → read-term-lts.Need-same-length-4 (
-  read-factor-below t,
-  read-factor.Post,
-  join-reads.Asked,
-  join-reads.Learnt,
-  byte-is-reads.Asked,
-  byte-is-reads.Learnt,
-  read-term-below t,
-  read-term.Post,
-) (read-term-at t) read-term.Post
+read-term-same-length-4 : (t : ℕ) → read-term-lts.Need-same-length-4 (read-term-calls t) (read-term-at t) read-term.Post
 read-term-same-length-4 t c = search needs
 
-read-term-returns-4 : (t : ℕ) → read-term-lts.Need-returns-4 (
-  read-factor-below t,
-  read-factor.Post,
-  join-reads.Asked,
-  join-reads.Learnt,
-  byte-is-reads.Asked,
-  byte-is-reads.Learnt,
-  read-term-below t,
-  read-term.Post,
-) (read-term-at t) read-term.Post
+read-term-returns-4 : (t : ℕ) → read-term-lts.Need-returns-4 (read-term-calls t) (read-term-at t) read-term.Post
 read-term-returns-4 t c =
     let at-read-term = c .before .before in
     let at-if2 = at-read-term .before .before in
@@ -1104,16 +511,7 @@ read-term-returns-4 t c =
 
 pub +read-condition+read-factor+read-term-spec : {M : Type 1} → statement M
 +read-condition+read-factor+read-term-spec =
-    close μ-read-condition μ-read-factor μ-read-term (λ t. read-condition-lts.spec (
-      read-term-below t,
-      read-term.Post,
-      join-reads.Asked,
-      join-reads.Learnt,
-      byte-is-reads.Asked,
-      byte-is-reads.Learnt,
-      read-condition-below t,
-      read-condition.Post,
-    )
+    close μ-read-condition μ-read-factor μ-read-term (λ t. read-condition-lts.spec (read-condition-calls t)
     (read-condition-at t)
     read-condition.Post
     (read-condition-read-term-requires t)
@@ -1134,18 +532,7 @@ pub +read-condition+read-factor+read-term-spec : {M : Type 1} → statement M
     (read-condition-read-condition-requires t)
     (read-condition-same-length-4 t)
     (read-condition-returns-4 t))
-    (λ t. read-factor-lts.spec (
-      byte-is-reads.Asked,
-      byte-is-reads.Learnt,
-      read-factor-below t,
-      read-factor.Post,
-      emit-op-reads.Asked,
-      emit-op-reads.Learnt,
-      read-comparison-reads.Asked,
-      read-comparison-reads.Learnt,
-      read-condition-below t,
-      read-condition.Post,
-    )
+    (λ t. read-factor-lts.spec (read-factor-calls t)
     (read-factor-at t)
     read-factor.Post
     (read-factor-byte-is-requires t)
@@ -1176,16 +563,7 @@ pub +read-condition+read-factor+read-term-spec : {M : Type 1} → statement M
     (read-factor-returns-6 t)
     (read-factor-same-length-6 t)
     (read-factor-returns-7 t))
-    λ t. read-term-lts.spec (
-      read-factor-below t,
-      read-factor.Post,
-      join-reads.Asked,
-      join-reads.Learnt,
-      byte-is-reads.Asked,
-      byte-is-reads.Learnt,
-      read-term-below t,
-      read-term.Post,
-    )
+    λ t. read-term-lts.spec (read-term-calls t)
     (read-term-at t)
     read-term.Post
     (read-term-read-factor-requires t)
