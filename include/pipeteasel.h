@@ -37,8 +37,8 @@ enum {
                         bytes aren't SIDs to their end (placeholders are allowed there) */
     PT_TYPES = 7,    /* object types not a multiple of 16 bytes, or over 64 bytes; of pt_may_open and pt_may_open_with: more than 32
                         SIDs held */
-    PT_ROOM = 8,     /* no room: a result over the lent length or over 65,532 bytes; an index row too short; in a tree a list
-                        given, or any list that the change or undo would compute, over 1,024 bytes */
+    PT_ROOM = 8,     /* no room: a result or a stored form over the lent length, or a result over 65,532 bytes; an index row too
+                        short; in a tree a list given, or any list that the change or undo would compute, over 1,024 bytes */
     PT_OBJECT = 9,   /* no such object; parent missing, not a container, or not as the first or later add asks */
     PT_FULL = 10,    /* object limit reached */
     PT_NO_STEP = 11, /* undo with no kept step */
