@@ -6,6 +6,7 @@ mod conditional;
 mod opening;
 mod playing;
 mod reader;
+mod sized;
 #[cfg(test)]
 mod testing;
 mod wording;

@@ -1,8 +1,8 @@
 // Whole scripts. A case: its kind (15), the script's length in 32 bits, the length of `out` in 16, the script.
-use crate::area::read_to;
-use octets::half_in;
+use crate::area::out_length;
+use crate::area::read_sized;
+use crate::area::sized;
 use octets::part_of;
-use octets::word_in;
 use stored::end_line;
 use stored::prepare;
 use stored::print_answer;
@@ -43,16 +43,8 @@ fn run_script(script: &[u8], m: usize) -> bool {
 
 // Reads the rest of a case and runs it; false where a length is over its limit or the input ends.
 pub(crate) fn run(area: &mut [u8]) -> bool {
-    if !read_to(area, 1, 6) {
+    if !read_sized(area, MOST_SCRIPT) {
         return false;
     }
-    let n = word_in(area, 1) as usize;
-    if MOST_SCRIPT < n {
-        return false;
-    }
-    let m = half_in(area, 5) as usize;
-    if !read_to(area, 7, n) {
-        return false;
-    }
-    run_script(part_of(area, 7, n), m)
+    run_script(sized(area), out_length(area))
 }

@@ -67,13 +67,28 @@ abbrev opIf : Bool → Token → List Token
 opIf true t = t ∷ []
 opIf false t = []
 
+-- it is one byte, and takes two from the stack
+pub record Operator (tok : Token) (code : ℕ) : Type 0 where
+  pub bytes : tokenBytes tok ≡ code ∷ []
+  pub two : takes tok ≡ 2
+
+module _ (tok : Token) (code : ℕ) (op : Operator tok code) where
+  note-op : (j : Bool) (w : Tally) → noteAll (opIf j tok) w ≡ noteIf j w
+  unfolding noteAll
+  note-op true w = rw (op .bytes, op .two)
+  note-op false w = refl
+
+  put-op : (j : Bool) (w : Tally) (o : List ℕ) → putAll (opIf j tok) w o ≡ putIf j code w o
+  unfolding putAll
+  put-op true w o = rw (op .bytes)
+  put-op false w o = refl
+
 module _ (O I : Level) (x code : ℕ) (tok : Token) (end : TreeOf I → TreeOf O) (more : TreeOf I → TreeOf O → TreeOf O) (z : eqb x x ≡ true)
     (link : (f d : ℕ) (l : List ℕ) → read (suc f) O d l ≡ readRow x end more (read f I d) (read f O d) l)
     (higher : rank O ≡ rank I + 1)
     (toks-end : (j : Bool) (t : TreeOf I) → toks O j (end t) ≡ toks I false t ++ opIf j tok)
     (toks-more : (j : Bool) (t : TreeOf I) (c : TreeOf O) → toks O j (more t c) ≡ toks I false t ++ (opIf j tok ++ toks O true c))
-    (note-op : (j : Bool) (w : Tally) → noteAll (opIf j tok) w ≡ noteIf j w)
-    (put-op : (j : Bool) (w : Tally) (o : List ℕ) → putAll (opIf j tok) w o ≡ putIf j code w o)
+    (op : Operator tok code)
     (s : List ℕ) (at d : ℕ) (low : at ≤ length s) (j : Bool) (w : Tally) (o : List ℕ) (r1 : Walked) (o1 : List ℕ) (h : ParsedAt I false s at d w o r1 o1) where
   abbrev tail : ℕ → TreeOf I → List ℕ → Res (TreeOf O)
   tail f t = pick (is x) (expect x (expect x (andThen (read f O d) (λ c. give (more t c))))) (give (end t))
@@ -95,10 +110,10 @@ module _ (O I : Level) (x code : ℕ) (tok : Token) (end : TreeOf I → TreeOf O
     step-is f t q = link f d (drop at s) ∙ ap (λ (y : Res (TreeOf I)). onward y (tail f)) q
 
     tally-2 : (t : TreeOf I) → w1 ≡ noteAll (toks I false t) w → w2 ≡ noteAll (opIf j tok) (noteAll (toks I false t) w)
-    tally-2 t q = jn .tally ∙ (sym (note-op j w1) ∙ ap (noteAll (opIf j tok)) q)
+    tally-2 t q = jn .tally ∙ (sym (note-op tok code op j w1) ∙ ap (noteAll (opIf j tok)) q)
 
     bytes-2 : (t : TreeOf I) → w1 ≡ noteAll (toks I false t) w → o1 ≡ putAll (toks I false t) w o → o2 ≡ putAll (opIf j tok) (noteAll (toks I false t) w) (putAll (toks I false t) w o)
-    bytes-2 t q u = jn .bytes ∙ (sym (put-op j w1 o1) ∙ (ap (λ (y : Tally). putAll (opIf j tok) y o1) q ∙ ap (putAll (opIf j tok) (noteAll (toks I false t) w)) u))
+    bytes-2 t q u = jn .bytes ∙ (sym (put-op tok code op j w1 o1) ∙ (ap (λ (y : Tally). putAll (opIf j tok) y o1) q ∙ ap (putAll (opIf j tok) (noteAll (toks I false t) w)) u))
 
     -- the row ends behind it
     end-is : isAt s p x ≡ false → (f : ℕ) → stepsAt O s at < f → Outcome (toks O j) s w o (read f O d (drop at s)) (At p w2) o2
@@ -192,56 +207,44 @@ unfolding tokensC
 term-more true t c = refl
 term-more false t c = refl
 
-note-or : (j : Bool) (w : Tally) → noteAll (opIf j ors) w ≡ noteIf j w
-unfolding noteAll tokenBytes takes
-note-or true w = refl
-note-or false w = refl
+or-op : Operator ors 161
+unfolding tokenBytes takes
+or-op = record { bytes = refl; two = refl }
 
-note-and : (j : Bool) (w : Tally) → noteAll (opIf j ands) w ≡ noteIf j w
-unfolding noteAll tokenBytes takes
-note-and true w = refl
-note-and false w = refl
-
-put-or : (j : Bool) (w : Tally) (o : List ℕ) → putAll (opIf j ors) w o ≡ putIf j 161 w o
-unfolding putAll tokenBytes
-put-or true w o = refl
-put-or false w o = refl
-
-put-and : (j : Bool) (w : Tally) (o : List ℕ) → putAll (opIf j ands) w o ≡ putIf j 160 w o
-unfolding putAll tokenBytes
-put-and true w o = refl
-put-and false w o = refl
+and-op : Operator ands 160
+unfolding tokenBytes takes
+and-op = record { bytes = refl; two = refl }
 
 module _ (s : List ℕ) (at d : ℕ) (low : at ≤ length s) (j : Bool) (w : Tally) (o : List ℕ) (r1 : Walked) (o1 : List ℕ) where
   module _ (h : ParsedAt term false s at d w o r1 o1) where
     pub condition-bad : (m : ℕ) → r1 ≡ Bad m → ParsedAt condition j s at d w o r1 o1
-    condition-bad = row-bad condition term 124 161 ors last or refl condition-link refl condition-end condition-more note-or put-or s at d low j w o r1 o1 h
+    condition-bad = row-bad condition term 124 161 ors last or refl condition-link refl condition-end condition-more or-op s at d low j w o r1 o1 h
 
     module _ (p : ℕ) (w1 : Tally) (e : r1 ≡ At p w1) (w2 : Tally) (o2 : List ℕ) (jn : Joined j 161 w1 o1 w2 o2) where
       pub condition-ends : isAt s p 124 ≡ false → ParsedAt condition j s at d w o (At p w2) o2
-      condition-ends = row-end condition term 124 161 ors last or refl condition-link refl condition-end condition-more note-or put-or s at d low j w o r1 o1 h p w1 e w2 o2 jn
+      condition-ends = row-end condition term 124 161 ors last or refl condition-link refl condition-end condition-more or-op s at d low j w o r1 o1 h p w1 e w2 o2 jn
 
       pub condition-half : isAt s p 124 ≡ true → p < length s → isAt s (p + 1) 124 ≡ false → ParsedAt condition j s at d w o (Bad (p + 1)) o2
-      condition-half = row-half condition term 124 161 ors last or refl condition-link refl condition-end condition-more note-or put-or s at d low j w o r1 o1 h p w1 e w2 o2 jn
+      condition-half = row-half condition term 124 161 ors last or refl condition-link refl condition-end condition-more or-op s at d low j w o r1 o1 h p w1 e w2 o2 jn
 
       pub condition-goes : isAt s p 124 ≡ true → p < length s → isAt s (p + 1) 124 ≡ true → p + 1 < length s → (r : Walked) (o3 : List ℕ)
           → ParsedAt condition true s (p + 2) d w2 o2 r o3 → ParsedAt condition j s at d w o r o3
-      condition-goes = row-more condition term 124 161 ors last or refl condition-link refl condition-end condition-more note-or put-or s at d low j w o r1 o1 h p w1 e w2 o2 jn
+      condition-goes = row-more condition term 124 161 ors last or refl condition-link refl condition-end condition-more or-op s at d low j w o r1 o1 h p w1 e w2 o2 jn
 
   module _ (h : ParsedAt factor false s at d w o r1 o1) where
     pub term-bad : (m : ℕ) → r1 ≡ Bad m → ParsedAt term j s at d w o r1 o1
-    term-bad = row-bad term factor 38 160 ands only and refl term-link refl term-end term-more note-and put-and s at d low j w o r1 o1 h
+    term-bad = row-bad term factor 38 160 ands only and refl term-link refl term-end term-more and-op s at d low j w o r1 o1 h
 
     module _ (p : ℕ) (w1 : Tally) (e : r1 ≡ At p w1) (w2 : Tally) (o2 : List ℕ) (jn : Joined j 160 w1 o1 w2 o2) where
       pub term-ends : isAt s p 38 ≡ false → ParsedAt term j s at d w o (At p w2) o2
-      term-ends = row-end term factor 38 160 ands only and refl term-link refl term-end term-more note-and put-and s at d low j w o r1 o1 h p w1 e w2 o2 jn
+      term-ends = row-end term factor 38 160 ands only and refl term-link refl term-end term-more and-op s at d low j w o r1 o1 h p w1 e w2 o2 jn
 
       pub term-half : isAt s p 38 ≡ true → p < length s → isAt s (p + 1) 38 ≡ false → ParsedAt term j s at d w o (Bad (p + 1)) o2
-      term-half = row-half term factor 38 160 ands only and refl term-link refl term-end term-more note-and put-and s at d low j w o r1 o1 h p w1 e w2 o2 jn
+      term-half = row-half term factor 38 160 ands only and refl term-link refl term-end term-more and-op s at d low j w o r1 o1 h p w1 e w2 o2 jn
 
       pub term-goes : isAt s p 38 ≡ true → p < length s → isAt s (p + 1) 38 ≡ true → p + 1 < length s → (r : Walked) (o3 : List ℕ)
           → ParsedAt term true s (p + 2) d w2 o2 r o3 → ParsedAt term j s at d w o r o3
-      term-goes = row-more term factor 38 160 ands only and refl term-link refl term-end term-more note-and put-and s at d low j w o r1 o1 h p w1 e w2 o2 jn
+      term-goes = row-more term factor 38 160 ands only and refl term-link refl term-end term-more and-op s at d low j w o r1 o1 h p w1 e w2 o2 jn
 
 -- ---- a factor
 

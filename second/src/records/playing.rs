@@ -7,6 +7,7 @@
 //! it is, which ends in a newline.
 
 use super::calls::{LONGEST_OUT, fnv_1a};
+use super::sized::Layout;
 use super::{Case, spaced};
 use crate::script;
 use crate::tree::OUT_BEFORE;
@@ -14,29 +15,18 @@ use crate::tree::OUT_BEFORE;
 pub const KIND: u8 = 15;
 pub const LONGEST_SCRIPT: usize = 140_000;
 
+const LAYOUT: Layout = Layout {
+    kind: KIND,
+    most: LONGEST_SCRIPT,
+    most_out: LONGEST_OUT,
+};
+
 pub fn encode(script: &[u8], out_length: u16, out: &mut Vec<u8>) {
-    let within_limits = script.len() <= LONGEST_SCRIPT && out_length <= LONGEST_OUT;
-    assert!(within_limits, "a case is too long");
-    out.push(KIND);
-    out.extend((script.len() as u32).to_le_bytes());
-    out.extend(out_length.to_le_bytes());
-    out.extend(script);
+    LAYOUT.encode(script, out_length, out);
 }
 
-/// The first byte is known to be the kind.
 pub fn decode(file: &[u8]) -> Result<(Case, &[u8]), &'static str> {
-    let (head, rest) = file.split_first_chunk::<7>().ok_or("cut head")?;
-    let &[_, ref length @ .., out_low, out_high] = head;
-    let length = u32::from_le_bytes(*length) as usize;
-    let out_length = u16::from_le_bytes([out_low, out_high]);
-    if length > LONGEST_SCRIPT {
-        return Err("the script is too long");
-    }
-    if out_length > LONGEST_OUT {
-        return Err("out is too long");
-    }
-    let (script, rest) = rest.split_at_checked(length).ok_or("cut script")?;
-    let script = script.to_vec();
+    let (script, out_length, rest) = LAYOUT.decode(file)?;
     Ok((Case::Play { script, out_length }, rest))
 }
 

@@ -6,6 +6,7 @@
 //! decimal, and the hash of the whole of `out`.
 
 use super::calls::fnv_1a;
+use super::sized::Layout;
 use super::{Case, spaced};
 use crate::tree::OUT_BEFORE;
 use crate::wording;
@@ -14,29 +15,18 @@ pub const KIND: u8 = 20;
 pub const LONGEST_TEXT: usize = 2_000;
 pub const LONGEST_OUT: u16 = 4_000;
 
+const LAYOUT: Layout = Layout {
+    kind: KIND,
+    most: LONGEST_TEXT,
+    most_out: LONGEST_OUT,
+};
+
 pub fn encode(text: &[u8], out_length: u16, out: &mut Vec<u8>) {
-    let within_limits = text.len() <= LONGEST_TEXT && out_length <= LONGEST_OUT;
-    assert!(within_limits, "a case is too long");
-    out.push(KIND);
-    out.extend((text.len() as u32).to_le_bytes());
-    out.extend(out_length.to_le_bytes());
-    out.extend(text);
+    LAYOUT.encode(text, out_length, out);
 }
 
-/// The first byte is known to be the kind.
 pub fn decode(file: &[u8]) -> Result<(Case, &[u8]), &'static str> {
-    let (head, rest) = file.split_first_chunk::<7>().ok_or("cut head")?;
-    let &[_, ref length @ .., out_low, out_high] = head;
-    let length = u32::from_le_bytes(*length) as usize;
-    let out_length = u16::from_le_bytes([out_low, out_high]);
-    if length > LONGEST_TEXT {
-        return Err("the text is too long");
-    }
-    if out_length > LONGEST_OUT {
-        return Err("out is too long");
-    }
-    let (text, rest) = rest.split_at_checked(length).ok_or("cut text")?;
-    let text = text.to_vec();
+    let (text, out_length, rest) = LAYOUT.decode(file)?;
     Ok((Case::Condition { text, out_length }, rest))
 }
 
