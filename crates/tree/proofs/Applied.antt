@@ -33,6 +33,11 @@ unfolding every
 every-all t zero h = refl
 every-all t (suc n) h = rw (every-all t n (λ i k. h i (omega arith))) (h n (omega arith))
 
+pub every-same : (f g : ℕ → Bool) (n : ℕ) → ((i : ℕ) → i < n → f i ≡ g i) → every f n ≡ every g n
+unfolding every
+every-same f g zero h = refl
+every-same f g (suc n) h = rw (every-same f g n (λ i k. h i (omega arith)), h n (omega arith))
+
 -- ---- one altered, one more in front
 
 -- x in the place of what f gives at i

@@ -25,6 +25,7 @@ use Rattle.tree.specs.Model.{Change, add, setList, setMark, setOwners, a
 use Rattle.tree.specs.Model.{Part, computed-list, own-list, other-data, bytesIf, dataBytes, partBytes, partTold, readAnswer, accepted, readInto}
 use Rattle.tree.specs.Model.{Call, start, change, undo, read, counts, Tree, objectsOf, answer, begun, noted, takenOff, next, after}
 use Rattle.tree.specs.Spare.{bareObject, bareSettings}
+use Rattle.tree.proofs.Applied.{every-same}
 use Rattle.tree.proofs.Likeness.{length-map, set-map, map-more, rest-map, bind-like}
 
 -- ---- one list, at most 1,024 bytes long
@@ -111,11 +112,6 @@ above-same : (p : Option ℕ) (f g : ℕ → Option MaybeList) → ((i : ℕ) �
 above-same none f g h = refl
 above-same (some i) f g h = h i
 
-every-same : (f g : ℕ → Bool) (n : ℕ) → ((i : ℕ) → f i ≡ g i) → every f n ≡ every g n
-unfolding every
-every-same f g zero h = refl
-every-same f g (suc n) h = ap₂ (λ (x y : Bool). x && y) (every-same f g n h) (h n)
-
 module _ (t : Settings) (d : shortIf (t .default) ≡ true) where
   below-unseen : (o : Object) → Each (Sized access) (o .list) → (a : MaybeList) → listBelow (bareSettings t) (bareObject o) a ≡ listBelow t o a
   below-unseen o z a =
@@ -137,7 +133,7 @@ module _ (t : Settings) (d : shortIf (t .default) ≡ true) where
     unfolding listed
     listed-unseen =
         ap (every (λ i. isSome (listOf (bareSettings t) (map bareObject os) i))) (length-map bareObject os)
-        ∙ every-same _ _ (length os) (λ i. ap isSome (list-unseen i))
+        ∙ every-same _ _ (length os) (λ i h. ap isSome (list-unseen i))
 
     outcome-unseen : (i : ℕ) → outcome (bareSettings t) (map bareObject os) i ≡ outcome t os i
     unfolding outcome

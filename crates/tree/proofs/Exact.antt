@@ -39,7 +39,7 @@ use Rattle.tree.proofs.NoRoom.{Earlier, TooLong, Over, earlier-tests, l
 use Rattle.tree.proofs.Modelled.{said, objects-shown, own-long, good-shown, works-like, change-as}
 
 module _ (r : List ℕ) (F : Formed r) where
-  earlier-shown : Earlier (objectsIn r)
+  pub earlier-shown : Earlier (objectsIn r)
   earlier-shown = subst (λ (os : List Model.Object). Earlier os) (objects-shown r) (earlier-in (shown r .own) (good-shown r F))
 
   -- a change whose earlier tests were passed

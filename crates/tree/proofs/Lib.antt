@@ -38,4 +38,9 @@ pub mod Layouts
 pub mod Exact
 pub mod Answered
 pub mod Changing
+pub mod Apart
+pub mod Altered
+pub mod Sequences
+pub mod Order
+pub mod OrderWorked
 pub mod Determined

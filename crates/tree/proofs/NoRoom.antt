@@ -25,6 +25,7 @@ use Rattle.tree.specs.Held.{isDone}
 use Rattle.tree.proofs.Replay.{reads}
 use Rattle.tree.specs.General.{bind, isSome, every}
 use Rattle.tree.specs.Model.{Settings, Object, no-object, object, asked, short, fitting, listBelow, above, listFrom, listOf, listed, Change, add, setList, setMark, setOwners, withList, withMark, withOwners, apply, shortIf, told, outcome, placed, changeAnswer}
+use Rattle.tree.specs.Apart.{changedBy}
 
 -- each object has no parent or an earlier one
 abbrev pub Earlier : List Object → Type 0
@@ -156,18 +157,12 @@ module _ (t : Settings) (os : List Object) (E : Earlier os) where
   unfolding listed isSome
   long-unlisted j l = every-false (λ i. isSome (listOf t os i)) (length os) j (l .stands) (rw (long-none j l) refl)
 
--- the list that a change gives, and the object that it changes
+-- the list that a change gives
 abbrev pub listGiven : Change → MaybeList
 listGiven (add o) = o .list
 listGiven (setList i l) = l
 listGiven (setMark i m) = none
 listGiven (setOwners i x y) = none
-
-abbrev pub changedBy : Change → List Object → ℕ
-changedBy (add o) os = length os
-changedBy (setList i l) os = i
-changedBy (setMark i m) os = i
-changedBy (setOwners i x y) os = i
 
 -- what is tested before room: 9, 10, 1 to 5, 6
 unfoldable pub earlier-tests : Settings → List Object → Change → Bool
@@ -225,7 +220,7 @@ module _ (t : Settings) where
     tests-passed : (c : Change) → earlier-tests t os c ≡ true
         → (changeAnswer t os c ≡ need (shortIf (listGiven c)) (refused 8 0 0) (outcome t (apply c os) (changedBy c os)))
         × (Earlier (apply c os) × (changedBy c os < length (apply c os)))
-    unfolding earlier-tests changeAnswer apply need shortIf
+    unfolding earlier-tests changeAnswer apply need shortIf changedBy
     tests-passed (add o) h =
         let a = both-true (placed os (o .parent)) _ h in
         let b = both-true (ltb (length os) (t .object-limit)) _ (a .1) in

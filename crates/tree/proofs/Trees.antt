@@ -18,7 +18,7 @@ use Rattle.tree.specs.Calls.{list as Edit·list, mark as Edit·mark, add
 use Rattle.tree.specs.Model.{Settings, Object, object, fitting, listFrom, listOf, listed, Change, add, setList, setMark, setOwners, apply, objectsAfter, placed, shortIf, told, outcome, changeAnswer, limitsOk, startAnswer, Part, computed-list}
 use Rattle.tree.specs.Model.{own-list, other-data, bytesIf, parentByte, dataBytes, partBytes, partTold, readAnswer, accepted, readInto, Call, start, change, undo, read, counts, Tree, begun, objectsOf, undoAnswer, answer, takenOff, next, after}
 use Rattle.tree.specs.Shown as Shown
-use Rattle.tree.specs.Shown.{settingsFrom, meant, alteration, changeMeant, answerTo, playedOn}
+use Rattle.tree.specs.Shown.{settingsFrom, meant, alteration, changeMeant, playedOn, answersOn}
 use Rattle.tree.proofs.Modelled.{said}
 use Rattle.tree.proofs.Demand3.{start-as, Shows, demand3}
 use Rattle.tree.proofs.Worked.{bytes-open, entries-open, lists-open, copies-open, last-open, compute-open}
@@ -235,40 +235,35 @@ worked =
 
 -- ---- over the calls, in any room that is large enough
 
--- what calls answer one after another, the latest first
-unfoldable pub answersOn : List Shown.Request → List ℕ → List Values
-answersOn [] r = []
-answersOn (q ∷ qs) r = answerTo q (playedOn qs r) ∷ answersOn qs r
-
-all-answered : (b : Settings) (r : List ℕ) → accepted (answerValues (startTo b r .answer)) ≡ true → (qs : List Shown.Request)
+pub all-answered : (b : Settings) (r : List ℕ) → accepted (answerValues (startTo b r .answer)) ≡ true → (qs : List Shown.Request)
     → answersOn qs (startTo b r .bytes) ≡ answers (begun (settingsFrom b)) (map (meant (length r)) qs)
 unfolding answersOn answers
 all-answered b r h [] = refl
 all-answered b r h (q ∷ qs) = ap₂ (λ (v : Values) (vs : List Values). v ∷ vs) (demand3 b r h qs .answers q) (all-answered b r h qs)
 
 -- rule 2, room for 3 objects and 16 steps, a default list or none
-abbrev begin : MaybeList → Settings
+abbrev pub begin : MaybeList → Settings
 begin default = record { object-limit = 3; step-limit = 16; rule = 2; mapping = mapping; default = default }
 
-abbrev Good : MaybeList → Type 0
+abbrev pub Good : MaybeList → Type 0
 Good d = startAnswer (settingsFrom (begin d)) true ≡ done 0 0 0 0
 
-begins : (d : MaybeList) (r : List ℕ) → roomFor 3 16 ≤ length r → Good d → accepted (answerValues (startTo (begin d) r .answer)) ≡ true
+pub begins : (d : MaybeList) (r : List ℕ) → roomFor 3 16 ≤ length r → Good d → accepted (answerValues (startTo (begin d) r .answer)) ≡ true
 begins d r h g = ap (λ (v : Values). accepted v) {y = done 0 0 0 0} (start-as (begin d) r ∙ started-as)
   where
     started-as : startAnswer (settingsFrom (begin d)) (leb (roomFor 3 16) (length r)) ≡ done 0 0 0 0
     started-as = rw (le-leb (roomFor 3 16) (length r) h) g
 
-abbrev made : ℕ → Bool → MaybeList → Shown.Request
+abbrev pub made : ℕ → Bool → MaybeList → Shown.Request
 made parent mark list =
     Shown.change (Change·add (record { parent = parent; container = true; mark = mark; type = replicate 16 0; owner = system; group = system; list = list }))
 
 unfoldable pub calls-open : Unit {0}
-unfolding meant changeMeant alteration
+unfolding bytes-open entries-open lists-open copies-open last-open compute-open model-open meant changeMeant alteration
 calls-open = tt
 
 module _ (r : List ℕ) (h : roomFor 3 16 ≤ length r) where
-  good-none : Good none
+  pub good-none : Good none
   unfolding bytes-open entries-open lists-open compute-open model-open
   good-none = refl
 
@@ -282,20 +277,20 @@ module _ (r : List ℕ) (h : roomFor 3 16 ≤ length r) where
 
   pub K8-answers : answersOn (Shown.undo ∷ Shown.change (alter 1 (Edit·mark false)) ∷ K8-calls) (startTo (begin none) r .bytes)
       ≡ done 0 0 0 0 ∷ done 68 1 3 0 ∷ done 28 1 1 0 ∷ done 28 1 1 0 ∷ []
-  unfolding bytes-open entries-open lists-open copies-open last-open compute-open model-open calls-open
+  unfolding calls-open
   K8-answers = all-answered (begin none) r (begins none r h good-none) (Shown.undo ∷ Shown.change (alter 1 (Edit·mark false)) ∷ K8-calls)
 
   pub K8-read : Shown.readWith computed-list 1 (playedOn K8-calls (startTo (begin none) r .bytes)) (replicate 28 0) .bytes ≡ plain-list
-  unfolding bytes-open entries-open lists-open copies-open last-open compute-open model-open calls-open
+  unfolding calls-open
   K8-read = demand3 (begin none) r (begins none r h good-none) K8-calls .read-back computed-list 1 (replicate 28 0)
 
   pub K9-read : Shown.readWith computed-list 1 (playedOn (Shown.change (alter 1 (Edit·mark false)) ∷ K8-calls) (startTo (begin none) r .bytes)) (replicate 68 0) .bytes
       ≡ bytes 0x44 3 (plain ∷ inherited 0x10 ∷ inherited 0x1B ∷ [])
-  unfolding bytes-open entries-open lists-open copies-open last-open compute-open model-open calls-open
+  unfolding calls-open
   K9-read = demand3 (begin none) r (begins none r h good-none) (Shown.change (alter 1 (Edit·mark false)) ∷ K8-calls) .read-back computed-list 1 (replicate 68 0)
 
   -- a default list: that of a root without an own list, and of a child below it
   pub default-answers : answersOn (made 0 false none ∷ made 0xFFFFFFFF false none ∷ []) (startTo (begin (some plain-list)) r .bytes)
       ≡ done 28 1 1 0 ∷ done 28 1 1 0 ∷ []
-  unfolding bytes-open entries-open lists-open copies-open last-open compute-open model-open calls-open
+  unfolding calls-open
   default-answers = all-answered (begin (some plain-list)) r (begins (some plain-list) r h good-plain) (made 0 false none ∷ made 0xFFFFFFFF false none ∷ [])

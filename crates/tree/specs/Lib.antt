@@ -8,3 +8,4 @@ pub mod Calls
 pub mod Shown
 pub mod Spare
 pub mod Inner
+pub mod Apart

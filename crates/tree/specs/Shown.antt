@@ -115,3 +115,8 @@ answerTo q r = answerValues (callOn q r .answer)
 unfoldable pub playedOn : List Request → List ℕ → List ℕ
 playedOn [] r = r
 playedOn (q ∷ qs) r = callOn q (playedOn qs r) .bytes
+
+-- and what they answer
+unfoldable pub answersOn : List Request → List ℕ → List Values
+answersOn [] r = []
+answersOn (q ∷ qs) r = answerTo q (playedOn qs r) ∷ answersOn qs r
