@@ -155,7 +155,40 @@ module _ (os : List Object) where
     pub siblings-apart : (i j : ℕ) → (i ≡ j → ⊥) → object os i .parent ≡ object os j .parent → Apart os i j
     siblings-apart i j n e = (sibling-elsewhere i j n e, sibling-elsewhere j i (λ q. n (sym q)) (sym e))
 
--- so it is where a parent has a smaller number
+-- ---- where a parent has a smaller number: so it is, and a number that is no object's is apart from every other
+
+no-parent : (os : List Object) (k : ℕ) → length os ≤ k → object os k .parent ≡ none
+no-parent os k h = rw (List·getD-eq-default os no-object h) refl
+
+module _ (os : List Object) (E : Earlier os) where
+  parent-earlier : (k p : ℕ) → object os k .parent ≡ some p → (p < k) × (k < length os)
+  parent-earlier k p e =
+      split (length os) k
+      (λ h. let z : _≡_ {A = ℕ} 0 1 = let n = no-parent os k h in cc in absurd (omega arith))
+      (λ h. elim (E k h) [
+        | inl n ↦ let z : _≡_ {A = ℕ} 0 1 = cc in absurd (omega arith)
+        | inr q ↦ let m : q .0 ≡ p = some-is (q .0) p (sym (q .1 .0) ∙ e) in (omega (arith, q .1 .1), h)
+      ])
+
+  above-earlier : (i : ℕ) {k : ℕ} → Above os i k → (i < k) × (k < length os)
+  above-earlier i {k = k} (parent e) = parent-earlier k i e
+  above-earlier i {k = k} (further {p = p} e A) =
+      let l = parent-earlier k p e in
+      let m = above-earlier i A in
+      (omega (arith, l .0, m .0), l .1)
+
+  pub unstanding-apart : (i j : ℕ) → length os ≤ j → (i ≡ j → ⊥) → Apart os i j
+  unstanding-apart i j h n = (
+    λ v. elim v [
+      | inl e ↦ n (sym e)
+      | inr A ↦ omega (arith, above-earlier i A .1)
+    ],
+    λ v. elim v [
+      | inl e ↦ n e
+      | inr A ↦ omega (arith, above-earlier j A .0, above-earlier j A .1)
+    ],
+  )
+
 pub earlier-rooted : (os : List Object) → Earlier os → Rooted os
 earlier-rooted os E k = from (suc k) k (omega arith)
   where
@@ -163,7 +196,7 @@ earlier-rooted os E k = from (suc k) k (omega arith)
     from zero k h = absurd (omega arith)
     from (suc more) k h =
         split (length os) k
-        (λ l. at-root (rw (List·getD-eq-default os no-object l) refl))
+        (λ l. at-root (no-parent os k l))
         (λ l. elim (E k l) [
           | inl e ↦ at-root e
           | inr q ↦ by-parent (q .1 .0) (from more (q .0) (omega (arith, q .1 .1)))

@@ -40,6 +40,7 @@ pub mod Answered
 pub mod Changing
 pub mod Apart
 pub mod Altered
+pub mod Alike
 pub mod Sequences
 pub mod Order
 pub mod OrderWorked

@@ -20,7 +20,8 @@ use Rattle.tree.specs.Model.{Settings, Object, Part, object, listOf, Tre
 use Rattle.tree.specs.Calls.{startTo, answerValues, ChangeGiven}
 use Rattle.tree.specs.Shown.{settingsIn, settingsFrom, objectsIn, listsIn, alteration, changeMeant, Request, start, change, undo, read, counts, meant, readWith, callOn, answerTo, playedOn, answersOn}
 use Rattle.tree.specs.Apart.{Within, Elsewhere, Apart, changedBy, Alter, alters, alteredBy, alteredAnswers, ApartFrom, AllApart, Turn, turnsOf, turnedBy, answersOf, Keeps, InFolders}
-use Rattle.tree.proofs.Tab.{length-tab, tab-ext}
+use Rattle.tree.specs.Same.{NoUndo, SameRooms, SameObject}
+use Rattle.tree.proofs.Tab.{tab-ext}
 use Rattle.tree.proofs.Keeps.{formed-facts}
 use Rattle.tree.proofs.Modelled.{objects-length}
 use Rattle.tree.proofs.Exact.{earlier-shown}
@@ -28,8 +29,8 @@ use Rattle.tree.proofs.Demand3.{Shows, demand3}
 use Rattle.tree.proofs.NoRoom.{Earlier}
 use Rattle.tree.proofs.Apart.{some-is, Rooted, earlier-rooted, apart-turned, folders-apart}
 use Rattle.tree.proofs.Altered.{all-listed}
-use Rattle.tree.proofs.Sequences.{asks, afterAll, Alike, alike-turned, alike-on, answer-alike, undoes, call-alike, Standing, Lasting, after-then, Kept, kept-alike, read-kept, into-kept, kept-elsewhere, answer-after, both-alike, as-first}
-use Rattle.tree.proofs.Sequences.{all-reordered, any-order-alike, changes, mixed-alike, mixed-answer, mixed-folder}
+use Rattle.tree.proofs.Alike.{Alike, alike-turned, alike-on, answer-alike, undoes, call-alike, Kept, kept-alike, read-kept, into-kept}
+use Rattle.tree.proofs.Sequences.{asks, afterAll, Standing, Lasting, after-then, kept-elsewhere, answer-after, both-alike, as-first, all-reordered, any-order-alike, changes, mixed-alike, mixed-answer, mixed-folder}
 
 -- ---- a room beside the model's tree, whatever calls follow
 
@@ -92,34 +93,7 @@ lasting T cs = standing-shown _ _ _ (shows (together-after T cs))
 asks-said : {long : ℕ} {r : List ℕ} {s : Tree} → Together long r s → (c : Alter) → answerTo (alters c) r ≡ answer s (asks c)
 asks-said {long = long} {s = s} T c = shows T .answers (alters c) ∙ ap (answer s) (meant-one long c)
 
--- ---- what is the same
-
--- no undo among calls
-abbrev pub NoUndo : List Request → Type 0
-NoUndo [] = Unit
-NoUndo (start t ∷ qs) = NoUndo qs
-NoUndo (change c ∷ qs) = NoUndo qs
-NoUndo (undo ∷ qs) = ⊥
-NoUndo (read x i out ∷ qs) = NoUndo qs
-NoUndo (counts ∷ qs) = NoUndo qs
-
--- two rooms: settings, own data of every object, computed lists, number of kept steps; what an undo answers; and, until there is an undo, what any further calls
--- answer and what is then read back
-pub record SameRooms (r u : List ℕ) : Type 0 where
-  pub settings-are : settingsIn r ≡ settingsIn u
-  pub own-data : objectsIn r ≡ objectsIn u
-  pub lists : listsIn r ≡ listsIn u
-  pub steps : keptSteps r ≡ keptSteps u
-  pub undo-answer : answerTo undo r ≡ answerTo undo u
-  pub later : (qs : List Request) → NoUndo qs → answersOn qs r ≡ answersOn qs u
-  pub read-back : (qs : List Request) → NoUndo qs → (x : Part) (i : ℕ) (out : List ℕ) → readWith x i (playedOn qs r) out .bytes ≡ readWith x i (playedOn qs u) out .bytes
-
--- one object in two rooms: own data, computed list, and what is read back of it
-pub record SameObject (r u : List ℕ) (k : ℕ) : Type 0 where
-  pub own-data : object (objectsIn r) k ≡ object (objectsIn u) k
-  pub list : k < objects r → held (slot k r) ≡ held (slot k u)
-  pub read-answer : (x : Part) (out : List ℕ) → answerTo (read x k out) r ≡ answerTo (read x k out) u
-  pub read-back : (x : Part) (out : List ℕ) → readWith x k r out .bytes ≡ readWith x k u out .bytes
+-- ---- rooms that are the same, and an object in two rooms
 
 no-undo : (long : ℕ) (q : Request) (qs : List Request) → NoUndo (q ∷ qs) → (undoes (meant long q) ≡ false) × NoUndo qs
 unfolding undoes meant

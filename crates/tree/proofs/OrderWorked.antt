@@ -2,7 +2,7 @@
 -- ends: a folder and what stands below it, where whoever comes second is refused, and undo, which takes back whatever came last.
 use mathlib.Core.Path.{_≡_, refl, sym, ap, ap₂, _∙_}
 use mathlib.Core.Bool.{Bool, true, false}
-use mathlib.Core.List.{List, [], _∷_}
+use mathlib.Core.List.{List, [], _∷_, List·Permᴰ·swap}
 use mathlib.Core.Logic.{inl, inr}
 use mathlib.Core.Option.{none, some}
 use Prim.Native.Nat.{ℕ, _≤_}
@@ -15,12 +15,12 @@ use Rattle.inherit.proofs.Worked.{parentWith, system}
 use Rattle.tree.specs.Room.{roomFor}
 use Rattle.tree.specs.Calls.{Edit, list, mark, owners, startTo, answerValues}
 use Rattle.tree.specs.Model.{Object, object, accepted, own-list}
-use Rattle.tree.specs.Shown.{objectsIn, Request, undo, read, answerTo, playedOn, answersOn}
-use Rattle.tree.specs.Apart.{Above, parent, further, Apart, Alter, alters, Turn, turnsOf, answersOf}
-use Rattle.tree.proofs.Apart.{siblings-apart}
+use Rattle.tree.specs.Shown.{objectsIn, Request, undo, read, counts, answerTo, playedOn, answersOn}
+use Rattle.tree.specs.Apart.{Above, parent, further, Apart, Alter, alters, alteredBy, Turn, turnsOf, answersOf}
+use Rattle.tree.proofs.Apart.{apart-turned, siblings-apart}
 use Rattle.tree.proofs.Demand3.{demand3}
 use Rattle.tree.proofs.Trees.{plain-list, long-list, calls-open, all-answered, begin, begins, made, good-none}
-use Rattle.tree.proofs.Order.{reached, rooted-reached, two-people}
+use Rattle.tree.proofs.Order.{reached, rooted-reached, AnyOrder, any-order, two-people}
 
 -- the worked parent as the root's own list, and what stands below it: two folders; a folder and one in it; a folder with a list of its own and the mark
 abbrev root : Request
@@ -104,6 +104,14 @@ module _ (r : List ℕ) (h : roomFor 3 16 ≤ length r) where
   pub mark-first : answersOn (alters lists-one ∷ alters marks-other ∷ folders) (room []) ≡ done 68 1 3 0 ∷ done 48 1 2 0 ∷ done 48 1 2 0 ∷ done 48 1 2 0 ∷ done 28 1 1 0 ∷ []
   unfolding calls-open playedOn
   mark-first = all-answered (begin none) r starts (alters lists-one ∷ alters marks-other ∷ folders)
+
+  -- and so by `any-order`
+  pub either-way : AnyOrder (room folders) (marks-other ∷ lists-one ∷ []) (lists-one ∷ marks-other ∷ [])
+  either-way = any-order (begin none) r starts folders _ _ (List·Permᴰ·swap refl refl) ((apart-turned _ 1 2 side-by-side, tt), (tt, tt))
+
+  -- then the second's placeholder is refused, and the counts are told, the same
+  pub later-too : answersOn (counts ∷ alters bad-owner ∷ []) (alteredBy (marks-other ∷ lists-one ∷ []) (room folders)) ≡ answersOn (counts ∷ alters bad-owner ∷ []) (alteredBy (lists-one ∷ marks-other ∷ []) (room folders))
+  later-too = either-way .rooms .later (counts ∷ alters bad-owner ∷ []) tt
 
   -- what each of the two is answered
   pub first-answered : answersOf true mixed (room folders) ≡ done 68 1 3 0 ∷ []

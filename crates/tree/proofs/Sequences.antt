@@ -3,116 +3,28 @@
 use mathlib.Core.Path.{_≡_, refl, sym, ap, ap₂, _∙_, subst}
 use mathlib.Core.Bool.{Bool, true, false, not, cond, Bool·beq}
 use mathlib.Core.List.{List, [], _∷_, _++_, map, map-append, List·Permᴰ, List·Permᴰ·nil, List·Permᴰ·cons, List·Permᴰ·swap, List·Permᴰ·trans}
-use Prim.Native.Nat.{ℕ, zero, suc, min}
-use native.Mathlib.Omega.{arith}
-use lib.ListN.{length}
-use lib.Dec.{leb, ltb}
-use borrow.Author.Tests.{ltb-true}
-use Rattle.octets.specs.Order.{need}
-use Rattle.octets.specs.Bytes.{front}
 use mathlib.Core.Logic.{inl}
-use mathlib.Core.Option.{some}
-use Rattle.list.specs.Answer.{Values, done, refused}
-use Rattle.tree.specs.Model as Model
-use Rattle.tree.specs.Model.{Settings, Object, Part, object, listOf, listed, Change, apply, objectsAfter, changeAnswer, accepted, Call, change, Tree, objectsOf, begun, answer, noted, next, after}
+use Prim.Native.Nat.{ℕ}
+use lib.ListN.{length}
+use lib.Dec.{ltb}
+use borrow.Author.Tests.{ltb-true}
+use Rattle.list.specs.Answer.{Values}
+use Rattle.tree.specs.Model.{Object, object, listOf, listed, Change, changeAnswer, accepted, Call, change, Tree, objectsOf, answer, noted, next, after}
 use Rattle.tree.specs.Shown.{alteration}
 use Rattle.tree.specs.Apart.{Within, Elsewhere, Apart, changedBy, Alter, ApartFrom, AllApart, Turn, turnsOf, Keeps}
-use Rattle.tree.proofs.Apart.{Rooted, SameParents, within-apart, apart-turned, apart-kept, elsewhere-kept}
+use Rattle.tree.proofs.Apart.{Rooted, SameParents, within-apart, apart-turned, apart-kept}
 use Rattle.tree.proofs.Altered.{listed-at, changed-other, changed-stands, changed-list, alters-it, put, put-parents, apply-is, answers-as-before, either-order}
+use Rattle.tree.proofs.Alike.{nextBy, next-change, answer-change, noted-objects, Alike, alike-same, alike-on, alike-is, answer-alike, next-alike, Kept, kept-same, kept-alike, kept-on}
+
+-- the model's change and call
+abbrev altering : Alter → Change
+altering c = alteration (c .object) (c .edit)
 
 abbrev pub asks : Alter → Call
-asks c = change (alteration (c .object) (c .edit))
+asks c = change (altering c)
 
 abbrev pub afterAll : Tree → List Alter → Tree
 afterAll s cs = after s (map asks cs)
-
--- ---- one more call
-
-abbrev nextBy : Bool → Tree → Change → Tree
-nextBy b s c = cond b (noted s c) s
-
-next-change : (s : Tree) (c : Change) → next s (change c) ≡ nextBy (accepted (answer s (change c))) s c
-unfolding next
-next-change s c = refl
-
-answer-change : (s : Tree) (c : Change) → answer s (change c) ≡ changeAnswer (s .settings) (objectsOf s) c
-unfolding answer
-answer-change s c = refl
-
-noted-objects : (s : Tree) (c : Change) → objectsOf (noted s c) ≡ apply c (objectsOf s)
-unfolding objectsAfter
-noted-objects s c = refl
-
--- ---- trees with the same settings, objects and number of kept steps
-
-pub record Alike (s u : Tree) : Type 0 where
-  pub settings-are : s .settings ≡ u .settings
-  pub objects-are : objectsOf s ≡ objectsOf u
-  pub kept-are : s .kept ≡ u .kept
-
-pub alike-same : (s : Tree) → Alike s s
-alike-same s = record { settings-are = refl; objects-are = refl; kept-are = refl }
-
-pub alike-turned : (s u : Tree) → Alike s u → Alike u s
-alike-turned s u A = record { settings-are = sym (A .settings-are); objects-are = sym (A .objects-are); kept-are = sym (A .kept-are) }
-
-pub alike-on : (s u v : Tree) → Alike s u → Alike u v → Alike s v
-alike-on s u v A B =
-    record {
-      settings-are = A .settings-are ∙ B .settings-are;
-      objects-are = A .objects-are ∙ B .objects-are;
-      kept-are = A .kept-are ∙ B .kept-are;
-    }
-
-alike-is : (s u v w : Tree) → s ≡ v → u ≡ w → Alike v w → Alike s u
-alike-is s u v w e f A = rw (e, f) A
-
-module _ (s u : Tree) (A : Alike s u) where
-  pub answer-alike : (q : Call) → answer s q ≡ answer u q
-  unfolding answer
-  answer-alike (Model.start t enough) = refl
-  answer-alike (change c) = ap₂ (λ (t : Settings) (os : List Object). changeAnswer t os c) (A .settings-are) (A .objects-are)
-  answer-alike Model.undo = ap Model.undoAnswer (A .kept-are)
-  answer-alike (Model.read x i out) = ap₂ (λ (t : Settings) (os : List Object). Model.readAnswer t os x i (length out)) (A .settings-are) (A .objects-are)
-  answer-alike Model.counts = ap₂ (λ (os : List Object) (k : ℕ). done (length os) 1 k 0) (A .objects-are) (A .kept-are)
-
-  noted-alike : (c : Change) → Alike (noted s c) (noted u c)
-  noted-alike c =
-      record {
-        settings-are = A .settings-are;
-        objects-are = noted-objects s c ∙ ap (apply c) (A .objects-are) ∙ sym (noted-objects u c);
-        kept-are = ap₂ (λ (t : Settings) (k : ℕ). min (t .step-limit) (suc k)) (A .settings-are) (A .kept-are);
-      }
-
-  by-alike : (b : Bool) (c : Change) → Alike (nextBy b s c) (nextBy b u c)
-  by-alike true c = noted-alike c
-  by-alike false c = A
-
-  pub next-alike : (c : Change) → Alike (next s (change c)) (next u (change c))
-  next-alike c =
-      alike-is (next s (change c)) (next u (change c)) (nextBy (accepted (answer u (change c))) s c) (nextBy (accepted (answer u (change c))) u c)
-      (next-change s c ∙ ap (λ (v : Values). nextBy (accepted v) s c) (answer-alike (change c))) (next-change u c) (by-alike (accepted (answer u (change c))) c)
-
-  -- a start begins anew or changes nothing, what is read changes nothing
-  start-alike : (b : Bool) (t : Settings) → Alike (cond b (begun t) s) (cond b (begun t) u)
-  start-alike true t = alike-same (begun t)
-  start-alike false t = A
-
--- a call that isn't an undo
-unfoldable pub undoes : Call → Bool
-undoes (Model.start t enough) = false
-undoes (change c) = false
-undoes Model.undo = true
-undoes (Model.read x i out) = false
-undoes Model.counts = false
-
-pub call-alike : (s u : Tree) → Alike s u → (q : Call) → undoes q ≡ false → Alike (next s q) (next u q)
-unfolding undoes next answer
-call-alike s u A (Model.start t enough) h = start-alike s u A (accepted (Model.startAnswer t enough)) t
-call-alike s u A (change c) h = next-alike s u A c
-call-alike s u A Model.undo h = let z : _≡_ {A = ℕ} 0 1 = cc in absurd (omega arith)
-call-alike s u A (Model.read x i out) h = A
-call-alike s u A Model.counts h = A
 
 -- ---- trees in which following parents ends at the root and every list is there, and stays so
 
@@ -133,62 +45,6 @@ lasting-on s L cs ds = subst (λ (u : Tree). Standing u) (ap (after s) (map-appe
 
 -- ---- what one change leaves alone
 
-pub record Kept (s u : Tree) (k : ℕ) : Type 0 where
-  pub own-data : object (objectsOf u) k ≡ object (objectsOf s) k
-  pub stands : ltb k (length (objectsOf u)) ≡ ltb k (length (objectsOf s))
-  pub list : ltb k (length (objectsOf s)) ≡ true → listOf (u .settings) (objectsOf u) k ≡ listOf (s .settings) (objectsOf s) k
-
-pub kept-same : (s : Tree) (k : ℕ) → Kept s s k
-kept-same s k = record { own-data = refl; stands = refl; list = λ h. refl }
-
-pub kept-alike : (s u : Tree) (k : ℕ) → Alike u s → Kept s u k
-kept-alike s u k A =
-    record {
-      own-data = ap (λ (os : List Object). object os k) (A .objects-are);
-      stands = ap (λ (os : List Object). ltb k (length os)) (A .objects-are);
-      list = λ h. ap₂ (λ (t : Settings) (os : List Object). listOf t os k) (A .settings-are) (A .objects-are);
-    }
-
-kept-on : (s u v : Tree) (k : ℕ) → Kept s u k → Kept u v k → Kept s v k
-kept-on s u v k K M =
-    record { own-data = M .own-data ∙ K .own-data; stands = M .stands ∙ K .stands; list = λ h. M .list (K .stands ∙ h) ∙ K .list h }
-
--- of such an object the same is read back
-module _ (s u : Tree) (k : ℕ) (K : Kept s u k) where
-  module _ (h : ltb k (length (objectsOf s)) ≡ true) where
-    bytes-kept : (x : Part) → Model.partBytes (u .settings) (objectsOf u) x k ≡ Model.partBytes (s .settings) (objectsOf s) x k
-    unfolding Model.partBytes
-    bytes-kept Model.computed-list = ap Model.bytesIf (K .list h)
-    bytes-kept Model.own-list = ap (λ (o : Object). Model.bytesIf (some (o .list))) (K .own-data)
-    bytes-kept Model.other-data = ap Model.dataBytes (K .own-data)
-
-    told-kept : (x : Part) → Model.partTold (u .settings) (objectsOf u) x k ≡ Model.partTold (s .settings) (objectsOf s) x k
-    unfolding Model.partTold
-    told-kept Model.computed-list = ap Model.told (K .list h)
-    told-kept Model.own-list = ap (λ (o : Object). Model.told (some (o .list))) (K .own-data)
-    told-kept Model.other-data = ap (λ (o : Object). done (length (Model.dataBytes o)) 1 0 0) (K .own-data)
-
-  pub read-kept : (x : Part) (room : ℕ) → Model.readAnswer (u .settings) (objectsOf u) x k room ≡ Model.readAnswer (s .settings) (objectsOf s) x k room
-  unfolding Model.readAnswer need
-  read-kept x room = rw (K .stands) (by (ltb k (length (objectsOf s))) refl)
-    where
-      by : (b : Bool) → ltb k (length (objectsOf s)) ≡ b
-          → need b (refused 9 0 0) (need (leb (length (Model.partBytes (u .settings) (objectsOf u) x k)) room) (refused 8 0 0) (Model.partTold (u .settings) (objectsOf u) x k))
-          ≡ need b (refused 9 0 0) (need (leb (length (Model.partBytes (s .settings) (objectsOf s) x k)) room) (refused 8 0 0) (Model.partTold (s .settings) (objectsOf s) x k))
-      by true h = rw (bytes-kept h x, told-kept h x) refl
-      by false h = refl
-
-  pub into-kept : (x : Part) (out : List ℕ) → Model.readInto (u .settings) (objectsOf u) x k out ≡ Model.readInto (s .settings) (objectsOf s) x k out
-  unfolding Model.readInto Model.readAnswer need
-  into-kept x out =
-      ap (λ (v : Values). cond (accepted v) (front (Model.partBytes (u .settings) (objectsOf u) x k) out) out) (read-kept x (length out)) ∙ by (ltb k (length (objectsOf s))) refl
-    where
-      by : (b : Bool) → ltb k (length (objectsOf s)) ≡ b
-          → cond (accepted (Model.readAnswer (s .settings) (objectsOf s) x k (length out))) (front (Model.partBytes (u .settings) (objectsOf u) x k) out) out
-          ≡ cond (accepted (Model.readAnswer (s .settings) (objectsOf s) x k (length out))) (front (Model.partBytes (s .settings) (objectsOf s) x k) out) out
-      by true h = rw (bytes-kept h x) refl
-      by false h = rw h refl
-
 -- an object that is neither the changed one nor below it
 pub kept-elsewhere : (s : Tree) → Standing s → (c : Change) (k : ℕ) → Elsewhere (objectsOf s) (changedBy c (objectsOf s)) k → Kept s (next s (change c)) k
 kept-elsewhere s S c k w = subst (λ (u : Tree). Kept s u k) (sym (next-change s c)) (by (accepted (answer s (change c))))
@@ -204,13 +60,13 @@ kept-elsewhere s S c k w = subst (λ (u : Tree). Kept s u k) (sym (next-change s
     by false = kept-same s k
 
 module _ (s : Tree) (c : Alter) where
-  put-objects : objectsOf (noted s (alteration (c .object) (c .edit))) ≡ put (objectsOf s) (c .object) (c .edit)
-  put-objects = noted-objects s (alteration (c .object) (c .edit)) ∙ apply-is (c .object) (c .edit) (objectsOf s)
+  put-objects : objectsOf (noted s (altering c)) ≡ put (objectsOf s) (c .object) (c .edit)
+  put-objects = noted-objects s (altering c) ∙ apply-is (c .object) (c .edit) (objectsOf s)
 
   parents-next : SameParents (objectsOf s) (objectsOf (next s (asks c)))
-  parents-next k = rw (next-change s (alteration (c .object) (c .edit))) (by (accepted (answer s (asks c))))
+  parents-next k = rw (next-change s (altering c)) (by (accepted (answer s (asks c))))
     where
-      by : (b : Bool) → object (objectsOf (nextBy b s (alteration (c .object) (c .edit)))) k .parent ≡ object (objectsOf s) k .parent
+      by : (b : Bool) → object (objectsOf (nextBy b s (altering c))) k .parent ≡ object (objectsOf s) k .parent
       by true = ap (λ (os : List Object). object os k .parent) put-objects ∙ put-parents (objectsOf s) (c .object) (c .edit) k
       by false = refl
 
@@ -232,48 +88,48 @@ unfolding after
 kept-apart s L k [] F = kept-same s k
 kept-apart s L k (d ∷ ds) F =
     kept-on s (afterAll s ds) (next (afterAll s ds) (asks d)) k (kept-apart s L k ds (F .1))
-    (kept-elsewhere (afterAll s ds) (L ds) (alteration (d .object) (d .edit)) k
+    (kept-elsewhere (afterAll s ds) (L ds) (altering d) k
     (rw (alters-it (d .object) (d .edit) (objectsOf (afterAll s ds))) (apart-after s ds k (d .object) (F .0) .1)))
 
 -- ---- two changes to objects apart
 
 two-objects : (s : Tree) (c d : Alter)
-    → objectsOf (noted (noted s (alteration (c .object) (c .edit))) (alteration (d .object) (d .edit))) ≡ put (put (objectsOf s) (c .object) (c .edit)) (d .object) (d .edit)
-two-objects s c d = put-objects (noted s (alteration (c .object) (c .edit))) d ∙ ap (λ (os : List Object). put os (d .object) (d .edit)) (put-objects s c)
+    → objectsOf (noted (noted s (altering c)) (altering d)) ≡ put (put (objectsOf s) (c .object) (c .edit)) (d .object) (d .edit)
+two-objects s c d = put-objects (noted s (altering c)) d ∙ ap (λ (os : List Object). put os (d .object) (d .edit)) (put-objects s c)
 
 module _ (s : Tree) (L : Lasting s) (c d : Alter) (A : Apart (objectsOf s) (c .object) (d .object)) where
   -- the one answers as if the other hadn't been
   pub answer-after : answer (next s (asks c)) (asks d) ≡ answer s (asks d)
   unfolding after
-  answer-after = rw (next-change s (alteration (c .object) (c .edit))) (by (accepted (answer s (asks c))) (next-change s (alteration (c .object) (c .edit))))
+  answer-after = rw (next-change s (altering c)) (by (accepted (answer s (asks c))) (next-change s (altering c)))
     where
-      by : (b : Bool) → next s (asks c) ≡ nextBy b s (alteration (c .object) (c .edit)) → answer (nextBy b s (alteration (c .object) (c .edit))) (asks d) ≡ answer s (asks d)
+      by : (b : Bool) → next s (asks c) ≡ nextBy b s (altering c) → answer (nextBy b s (altering c)) (asks d) ≡ answer s (asks d)
       by true e =
           let there : listed (s .settings) (put (objectsOf s) (c .object) (c .edit)) ≡ true =
           subst (λ (os : List Object). listed (s .settings) os ≡ true) (put-objects s c)
           (subst (λ (u : Tree). listed (u .settings) (objectsOf u) ≡ true) e (L (c ∷ []) .all-there)) in
-          answer-change (noted s (alteration (c .object) (c .edit))) (alteration (d .object) (d .edit))
-          ∙ ap (λ (os : List Object). changeAnswer (s .settings) os (alteration (d .object) (d .edit))) (put-objects s c)
+          answer-change (noted s (altering c)) (altering d)
+          ∙ ap (λ (os : List Object). changeAnswer (s .settings) os (altering d)) (put-objects s c)
           ∙ answers-as-before (objectsOf s) (c .object) (d .object) A (c .edit) (d .edit) (s .settings) (L [] .rooted) (L [] .all-there) there
-          ∙ sym (answer-change s (alteration (d .object) (d .edit)))
+          ∙ sym (answer-change s (altering d))
       by false e = refl
 
-  noted-both : (x y : Bool) → let e = alteration (c .object) (c .edit) in let f = alteration (d .object) (d .edit) in Alike (nextBy y (nextBy x s e) f) (nextBy x (nextBy y s f) e)
+  noted-both : (x y : Bool) → let e = altering c in let f = altering d in Alike (nextBy y (nextBy x s e) f) (nextBy x (nextBy y s f) e)
   noted-both true true =
       record {
         settings-are = refl;
         objects-are = two-objects s c d ∙ either-order (objectsOf s) (c .object) (d .object) A (c .edit) (d .edit) ∙ sym (two-objects s d c);
         kept-are = refl;
       }
-  noted-both true false = alike-same (noted s (alteration (c .object) (c .edit)))
-  noted-both false true = alike-same (noted s (alteration (d .object) (d .edit)))
+  noted-both true false = alike-same (noted s (altering c))
+  noted-both false true = alike-same (noted s (altering d))
   noted-both false false = alike-same s
 
 next-two : (s : Tree) (c d : Alter) → answer (next s (asks c)) (asks d) ≡ answer s (asks d)
-    → next (next s (asks c)) (asks d) ≡ nextBy (accepted (answer s (asks d))) (nextBy (accepted (answer s (asks c))) s (alteration (c .object) (c .edit))) (alteration (d .object) (d .edit))
+    → next (next s (asks c)) (asks d) ≡ nextBy (accepted (answer s (asks d))) (nextBy (accepted (answer s (asks c))) s (altering c)) (altering d)
 next-two s c d e =
-    next-change (next s (asks c)) (alteration (d .object) (d .edit))
-    ∙ ap₂ (λ (v : Values) (u : Tree). nextBy (accepted v) u (alteration (d .object) (d .edit))) e (next-change s (alteration (c .object) (c .edit)))
+    next-change (next s (asks c)) (altering d)
+    ∙ ap₂ (λ (v : Values) (u : Tree). nextBy (accepted v) u (altering d)) e (next-change s (altering c))
 
 -- in either order the trees are alike
 pub both-alike : (s : Tree) → Lasting s → (c d : Alter) → Apart (objectsOf s) (c .object) (d .object) → Alike (next (next s (asks c)) (asks d)) (next (next s (asks d)) (asks c))
@@ -298,7 +154,7 @@ slide s L c [] F = alike-same (next s (asks c))
 slide s L c (d ∷ ds) F =
     alike-on _ (next (next (afterAll s ds) (asks c)) (asks d)) _
     (both-alike (afterAll s ds) (lasting-on s L ds) d c (apart-turned _ (c .object) (d .object) (apart-after s ds (c .object) (d .object) (F .0))))
-    (next-alike (next (afterAll s ds) (asks c)) (afterAll (next s (asks c)) ds) (slide s L c ds (F .1)) (alteration (d .object) (d .edit)))
+    (next-alike (next (afterAll s ds) (asks c)) (afterAll (next s (asks c)) ds) (slide s L c ds (F .1)) (altering d))
 
 -- ---- in another order
 
@@ -323,7 +179,7 @@ unfolding after
 any-order-alike s L List·Permᴰ·nil F = alike-same s
 any-order-alike s L (List·Permᴰ·cons {a = a} {l₁ = cs} {l₂ = ds} e p) F =
     subst (λ (c : Alter). Alike (afterAll s (a ∷ cs)) (afterAll s (c ∷ ds))) e
-    (next-alike (afterAll s cs) (afterAll s ds) (any-order-alike s L p (F .1)) (alteration (a .object) (a .edit)))
+    (next-alike (afterAll s cs) (afterAll s ds) (any-order-alike s L p (F .1)) (altering a))
 any-order-alike s L (List·Permᴰ·swap {a = a} {b = b} {b′ = b′} {l = l} e f) F =
     subst (λ (x : Alter). Alike (afterAll s (a ∷ b ∷ l)) (afterAll s (x ∷ b′ ∷ l))) f
     (subst (λ (x : Alter). Alike (afterAll s (a ∷ b ∷ l)) (afterAll s (b ∷ x ∷ l))) e

@@ -1,4 +1,4 @@
--- Which object is above which, which are apart, and changes to such objects by one person or two (RULES 3.9). Nothing here is about how a list is worked out.
+-- Which object is above which, which are apart, and changes to such objects by one person or two (RULES 13): of own data, with no word of how a list is worked out.
 use Prim.Native.Nat.{ℕ}
 use mathlib.Core.Path.{_≡_}
 use mathlib.Core.Bool.{Bool, cond, Bool·beq}

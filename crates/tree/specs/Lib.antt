@@ -9,3 +9,4 @@ pub mod Shown
 pub mod Spare
 pub mod Inner
 pub mod Apart
+pub mod Same
