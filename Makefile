@@ -6,7 +6,8 @@
 # make edits    every edit, of crates/*/must-fail and of docs/edits: refused by the prover, and seen to change an answer
 # make lib      libpipeteasel.a, for C and whatever calls C (include/pipeteasel.h)
 # make compare  the C library and axs against the independent second program: CASES fresh cases, TREES sequences, DEEP of them on trees
-#               at their limits, SCRIPTS scripts and PIPED scripts handed to axs in pieces, all from SEED
+#               at their limits, ORDERS trees on which changes come in two orders, SCRIPTS scripts and PIPED scripts handed to axs
+#               in pieces, all from SEED
 # make hostile  CALLS calls of the C library with hostile bytes between guard pages, and some under valgrind
 # make cases    the stored cases and their answers anew, both by the second program
 # make bench    the table of docs/BENCH.md: instructions, of the library now and in the last landings, and of the second program; on an
@@ -17,6 +18,7 @@ SCRIPT ?= examples/document.axs
 CASES ?= 100000
 TREES ?= 10000
 DEEP ?= 100
+ORDERS ?= 10000
 SCRIPTS ?= 20000
 PIPED ?= 1000
 SEED ?= 1
@@ -41,7 +43,7 @@ endif
 
 .PHONY: play axs examples c_examples test quick edits lib second stand_in hostile cases bench
 .PHONY: compare compare_built compare_tests compare_list compare_compute compare_access compare_condition compare_tree compare_deep
-.PHONY: compare_script compare_program compare_wording
+.PHONY: compare_order compare_script compare_program compare_wording
 
 play: axs
 	@$(EMULATED) target/bin/axs <$(SCRIPT)
@@ -50,10 +52,12 @@ play: axs
 axs:
 	@rt check axs >&2
 
+# two of them are the same changes in two orders
 examples: axs
 	@for script in examples/*.axs; do \
 		$(EMULATED) target/bin/axs <$$script | cmp - $${script%.axs}.out && echo "$$script: as expected" || exit 1; \
 	done
+	cmp examples/two_folders_stage_first.out examples/two_folders_foyer_first.out
 
 # play_file is handed the document's script, whose text is that of axs; where a script has the program's name, what it writes is in NAME.c.out
 c_examples: lib
@@ -72,7 +76,7 @@ quick:
 	tools/claims
 	rt check
 	$(MAKE) --no-print-directory lib
-	$(MAKE) --no-print-directory -j2 --output-sync=target compare CASES=5000 TREES=5000 DEEP=2 SCRIPTS=5000 PIPED=100
+	$(MAKE) --no-print-directory -j2 --output-sync=target compare CASES=5000 TREES=5000 DEEP=2 ORDERS=500 SCRIPTS=5000 PIPED=100
 	@echo "quick: all held; no edit was tried, and the gate asks for more: no verdict"
 
 edits: second
@@ -101,7 +105,7 @@ stand_in: lib
 
 # each layer by itself, so that `make -j` compares several at a time
 COMPARE = $(CARGO_DIR)/release/compare
-compare: compare_list compare_compute compare_tree compare_deep compare_script compare_program compare_access compare_condition compare_wording
+compare: compare_list compare_compute compare_tree compare_deep compare_order compare_script compare_program compare_access compare_condition compare_wording
 
 compare_built: lib axs $(STAND_IN)
 	$(CARGO) --manifest-path compare/Cargo.toml
@@ -118,6 +122,9 @@ compare_tree: compare_built
 
 compare_deep: compare_built
 	tools/timed deep $(COMPARE) deep --cases $(DEEP) --seed $(SEED)
+
+compare_order: compare_built
+	tools/timed order $(COMPARE) order --cases $(ORDERS) --seed $(SEED)
 
 compare_script: compare_built
 	tools/timed script $(COMPARE) script --cases $(SCRIPTS) --seed $(SEED)

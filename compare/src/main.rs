@@ -9,6 +9,7 @@ mod floors;
 mod list;
 mod mended;
 mod mutate;
+mod order;
 mod program;
 mod repeat;
 mod report;
@@ -22,7 +23,7 @@ use std::process::ExitCode;
 use report::Report;
 
 const USAGE: &str =
-    "usage: compare list|compute|tree|deep|script|access|condition|wording --cases N --seed S
+    "usage: compare list|compute|tree|deep|order|script|access|condition|wording --cases N --seed S
        compare program PATH --cases N --seed S
        compare repeat time|count library|second WHAT TIMES     (bench/rows.txt names what)";
 
@@ -106,6 +107,7 @@ fn layer_by_name(name: &str) -> Option<fn(usize, u64) -> Report> {
         "compute" => Some(compute::compare),
         "tree" => Some(tree::compare),
         "deep" => Some(deep::compare),
+        "order" => Some(order::compare),
         "script" => Some(script::compare),
         "access" => Some(access::compare),
         "condition" => Some(condition::compare),

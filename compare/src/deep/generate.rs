@@ -94,7 +94,7 @@ impl Maker {
         .with_list(one_entry(0x03, number))
     }
 
-    fn parent(&self, random: &mut Random, standing: &[Object]) -> u32 {
+    pub fn parent(&self, random: &mut Random, standing: &[Object]) -> u32 {
         let containers: Vec<usize> = (0..standing.len())
             .filter(|&number| standing[number].is_container)
             .collect();
@@ -245,7 +245,7 @@ impl Maker {
 }
 
 /// A bad one, or one that is a spare byte too long.
-fn refused_list(random: &mut Random) -> Vec<u8> {
+pub fn refused_list(random: &mut Random) -> Vec<u8> {
     if random.chance(3, 4) {
         return bad_list(random);
     }

@@ -1,9 +1,9 @@
 //! Trees that are filled to their limits, 64 objects and 64 kept steps, and
 //! then changed, undone and asked for too much.
 
-mod generate;
+pub mod generate;
 mod large;
-mod press;
+pub mod press;
 
 use crate::floors;
 use crate::report::Report;
@@ -12,8 +12,8 @@ use crate::tree::conditional_at_times;
 use crate::tree::generate::{read, room_length};
 use crate::tree::told::Told;
 use generate::{Maker, Profile};
-pub use large::{Large, lists_in_turn};
-use large::{TooLong, depths};
+use large::TooLong;
+pub use large::{Large, depths, lists_in_turn};
 use second::cases::tree::palette::Palette;
 use second::random::Random;
 use second::room::Found;

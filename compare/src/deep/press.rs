@@ -48,7 +48,7 @@ fn sources(objects: &[Object]) -> Vec<usize> {
     [0].into_iter().chain(others).collect()
 }
 
-fn by_list(random: &mut Random, found: &Found, source: usize) -> Vec<Change> {
+pub fn by_list(random: &mut Random, found: &Found, source: usize) -> Vec<Change> {
     let flags = *random.pick(&COMING_DOWN);
     let spare = random.below(MOST_SPARE + 1);
     let list_of = |bytes| vec![set_list(source as u32, of_bytes(flags, bytes, spare))];
@@ -57,7 +57,7 @@ fn by_list(random: &mut Random, found: &Found, source: usize) -> Vec<Change> {
         .unwrap_or_default()
 }
 
-fn by_owner(random: &mut Random, found: &Found, source: usize) -> Vec<Change> {
+pub fn by_owner(random: &mut Random, found: &Found, source: usize) -> Vec<Change> {
     let flags = *random.pick(&COMING_DOWN);
     let number = random.word();
     let owner_of = |numbers: usize| {
@@ -83,7 +83,7 @@ fn by_owner(random: &mut Random, found: &Found, source: usize) -> Vec<Change> {
 }
 
 /// What comes down from above fits as long as a mark keeps it out.
-fn by_mark(random: &mut Random, found: &Found, above: usize, marked: usize) -> Vec<Change> {
+pub fn by_mark(random: &mut Random, found: &Found, above: usize, marked: usize) -> Vec<Change> {
     let flags = *random.pick(&COMING_DOWN);
     let spare = random.below(MOST_SPARE + 1);
     let with_mark = |bytes| vec![set_list(above as u32, of_bytes(flags, bytes, spare))];

@@ -1,8 +1,10 @@
 use super::*;
-use crate::floors::{ACCESS, COMPUTE, CONDITION, DEEP, LIST, PROGRAM, SCRIPT, TREE, WORDING};
+use crate::floors::{
+    ACCESS, COMPUTE, CONDITION, DEEP, LIST, ORDER, PROGRAM, SCRIPT, TREE, WORDING,
+};
 
-static ALL: [&Floors; 9] = [
-    &LIST, &COMPUTE, &TREE, &DEEP, &SCRIPT, &PROGRAM, &ACCESS, &CONDITION, &WORDING,
+static ALL: [&Floors; 10] = [
+    &LIST, &COMPUTE, &TREE, &DEEP, &ORDER, &SCRIPT, &PROGRAM, &ACCESS, &CONDITION, &WORDING,
 ];
 
 fn of_cases(floors: &'static Floors, cases: usize) -> Report {
@@ -67,7 +69,7 @@ fn one_less_than_its_floor_fails() {
 #[test]
 fn every_number_in_a_table_is_asked_for() {
     for floors in [
-        &LIST, &COMPUTE, &TREE, &SCRIPT, &PROGRAM, &ACCESS, &CONDITION, &WORDING,
+        &LIST, &COMPUTE, &TREE, &ORDER, &SCRIPT, &PROGRAM, &ACCESS, &CONDITION, &WORDING,
     ] {
         assert_eq!(asked(floors).count(), floors.counts().count());
     }

@@ -71,9 +71,17 @@ impl Ours {
 }
 
 /// The second program's tree and the room that the library works on.
+#[derive(Clone)]
 pub struct Both {
     pub ours: Ours,
     lent: Vec<u8>,
+}
+
+/// What the library gave, the answer and the whole of `out`.
+#[derive(PartialEq, Eq)]
+pub struct Given {
+    pub answer: [u32; 8],
+    pub out: Vec<u8>,
 }
 
 impl Both {
@@ -117,6 +125,16 @@ impl Both {
         if let Call::Room { objects, steps } = call {
             return compare_lengths(report, *objects, *steps);
         }
+        self.ask(random, report, call).map(|_| ())
+    }
+
+    /// Any call but the one for a length, and what it gave on both sides.
+    pub fn ask(
+        &mut self,
+        random: &mut Random,
+        report: &mut Report,
+        call: &Call,
+    ) -> Result<Given, String> {
         let ours = self.ours.play(call);
         let our_answer = ours.eight().expect("only a length has no answer");
         report.add_call(call.name(), our_answer[0]);
@@ -147,7 +165,11 @@ impl Both {
         }
         self.check_out(&ours, &out)?;
         self.check_list(report, call, &ours, inside(&out))?;
-        self.check_room(report, &ours, call, &before)
+        self.check_room(report, &ours, call, &before)?;
+        Ok(Given {
+            answer: theirs,
+            out: inside(&out).to_vec(),
+        })
     }
 
     /// One that was read back and computed by rule 2.

@@ -19,7 +19,12 @@ pub fn start(random: &mut Random, palette: &Palette) -> Start {
         4 => (1 + random.below(64), random.below(65)),
         _ => (1 + random.below(7), random.below(8)),
     };
-    let mut start = palette.start(random, objects as u32, steps as u32);
+    start_of(random, palette, objects as u32, steps as u32)
+}
+
+/// One that is accepted.
+pub fn start_of(random: &mut Random, palette: &Palette, objects: u32, steps: u32) -> Start {
+    let mut start = palette.start(random, objects, steps);
     if start.default_list.len() > LONGEST_LIST {
         start.has_default = 0;
     }
@@ -169,7 +174,7 @@ fn bad_identity(random: &mut Random, sid: Vec<u8>) -> Vec<u8> {
     sid
 }
 
-fn change(random: &mut Random, palette: &Palette, objects: &[Object], most: usize) -> Change {
+pub fn change(random: &mut Random, palette: &Palette, objects: &[Object], most: usize) -> Change {
     let mut change = palette.change(random, objects, most);
     if random.chance(1, 6) {
         for _ in 0..1 + random.below(2) {

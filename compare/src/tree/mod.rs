@@ -58,7 +58,8 @@ fn one(random: &mut Random, report: &mut Report) -> Result<(), String> {
     Ok(())
 }
 
-fn varied(random: &mut Random, palette: Palette) -> Palette {
+/// With spare bytes, generic bits and conditions, each at times.
+pub fn varied(random: &mut Random, palette: Palette) -> Palette {
     let palette = roomy_at_times(random, palette);
     let palette = generic_at_times(random, palette);
     conditional_at_times(random, palette)

@@ -1,6 +1,6 @@
 //! What the report tells of a case that differs.
 
-use super::check::Both;
+use super::check::{Both, Given};
 use crate::report::Report;
 use second::hex;
 use second::random::Random;
@@ -14,7 +14,7 @@ const LONGEST: usize = 4_000;
 const MOST_BYTES: usize = 8;
 
 /// The calls on one room so far.
-#[derive(Default)]
+#[derive(Clone, Default)]
 pub struct Told {
     calls: Vec<Call>,
 }
@@ -28,12 +28,28 @@ impl Told {
         call: Call,
     ) -> Result<(), String> {
         let outcome = both.play(random, report, &call);
+        self.note(call, outcome)
+    }
+
+    /// Any call but the one for a length.
+    pub fn ask(
+        &mut self,
+        both: &mut Both,
+        random: &mut Random,
+        report: &mut Report,
+        call: Call,
+    ) -> Result<Given, String> {
+        let outcome = both.ask(random, report, &call);
+        self.note(call, outcome)
+    }
+
+    fn note<T>(&mut self, call: Call, outcome: Result<T, String>) -> Result<T, String> {
         self.calls.push(call);
         outcome.map_err(|what| self.text(&what))
     }
 
     /// As a case file, so that it can be tried again.
-    fn text(&self, what: &str) -> String {
+    pub fn text(&self, what: &str) -> String {
         let name = self.calls.last().map_or("none", Call::name);
         let text = format!("{what}, by call {}, {name}", self.calls.len());
         if !self.calls.iter().all(fits_a_record) {

@@ -246,6 +246,8 @@ fn the_examples_that_tell_a_story() {
         "cut_file",
         "undo_past_the_steps",
         "full_control",
+        "two_folders_stage_first",
+        "two_folders_foyer_first",
     ];
     for name in names {
         let read = |ending| std::fs::read(folder.join(format!("{name}.{ending}"))).unwrap();
