@@ -147,6 +147,9 @@ impl Case<'_> {
             if self.random.chance(1, 4) {
                 let spoilt = self.maker.spoilt(&mut self.random, &standing);
                 self.play(Call::Change(spoilt))?;
+                if self.has_no_place_below() {
+                    self.play(Call::Undo)?;
+                }
                 continue;
             }
             let add = self.maker.add(&mut self.random, &standing);
@@ -157,6 +160,12 @@ impl Case<'_> {
             }
         }
         Ok(())
+    }
+
+    /// A change that isn't spoilt after all may be a root that is no container.
+    fn has_no_place_below(&self) -> bool {
+        let root = self.found().objects.first();
+        root.is_some_and(|root| !root.is_container)
     }
 
     /// So many changes that are accepted, others between them and undos too.

@@ -15,7 +15,7 @@ use Rattle.inherit.proofs.Worked.{parentWith, system}
 use Rattle.tree.specs.Room.{roomFor}
 use Rattle.tree.specs.Calls.{Edit, list, mark, owners, startTo, answerValues}
 use Rattle.tree.specs.Model.{Object, object, accepted, own-list}
-use Rattle.tree.specs.Shown.{objectsIn, Request, undo, read, counts, answerTo, playedOn, answersOn}
+use Rattle.tree.specs.Shown.{objectsIn, Request, start, undo, read, counts, answerTo, playedOn, answersOn}
 use Rattle.tree.specs.Apart.{Above, parent, further, Apart, Alter, alters, alteredBy, Turn, turnsOf, answersOf}
 use Rattle.tree.proofs.Apart.{apart-turned, siblings-apart}
 use Rattle.tree.proofs.Demand3.{demand3}
@@ -109,9 +109,12 @@ module _ (r : List ℕ) (h : roomFor 3 16 ≤ length r) where
   pub either-way : AnyOrder (room folders) (marks-other ∷ lists-one ∷ []) (lists-one ∷ marks-other ∷ [])
   either-way = any-order (begin none) r starts folders _ _ (List·Permᴰ·swap refl refl) ((apart-turned _ 1 2 side-by-side, tt), (tt, tt))
 
-  -- then the second's placeholder is refused, and the counts are told, the same
-  pub later-too : answersOn (counts ∷ alters bad-owner ∷ []) (alteredBy (marks-other ∷ lists-one ∷ []) (room folders)) ≡ answersOn (counts ∷ alters bad-owner ∷ []) (alteredBy (lists-one ∷ marks-other ∷ []) (room folders))
-  later-too = either-way .rooms .later (counts ∷ alters bad-owner ∷ []) tt
+  -- and so are further calls: a placeholder for an owner, a list that is read, the counts, another start
+  abbrev further-calls : List Request
+  further-calls = start (begin none) ∷ counts ∷ read own-list 1 (replicate 28 0) ∷ alters bad-owner ∷ []
+
+  pub later-too : answersOn further-calls (alteredBy (marks-other ∷ lists-one ∷ []) (room folders)) ≡ answersOn further-calls (alteredBy (lists-one ∷ marks-other ∷ []) (room folders))
+  later-too = either-way .rooms .later further-calls tt
 
   -- what each of the two is answered
   pub first-answered : answersOf true mixed (room folders) ≡ done 68 1 3 0 ∷ []
