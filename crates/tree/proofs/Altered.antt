@@ -1,24 +1,24 @@
 -- A change of one object's list, mark, or owner and group, on the model: what it leaves alone; and two of them, to objects apart: each answers as without the other,
 -- and in either order the objects are the same.
-use mathlib.Core.Path.{_≡_, refl, sym, ap, _∙_, subst}
-use mathlib.Core.Bool.{Bool, true, false, cond}
+use mathlib.Core.Path.{_≡_, refl, sym, ap, _∙_}
+use mathlib.Core.Bool.{true}
 use mathlib.Core.List.{List, [], _∷_, _++_}
-use mathlib.Core.Logic.{_⊎_, inl, inr}
+use mathlib.Core.Logic.{inl, inr}
 use mathlib.Core.Option.{Option, none, some}
-use Prim.Native.Nat.{ℕ, zero, suc, min, _<_}
+use Prim.Native.Nat.{ℕ, zero, suc, _<_}
 use native.Mathlib.Decide.{ℕ-discrete}
 use native.Mathlib.Omega.{arith}
 use lib.ListN.{length, set, length-append, length-set, List·getD-append, List·getD-eq-default}
 use lib.Seq.{getD-set-same, getD-set-other, set-comm, set-out}
 use lib.Dec.{ltb}
-use borrow.Author.Tests.{lt-ltb, le-ltb, ltb-true}
+use borrow.Author.Tests.{lt-ltb, le-ltb}
 use Rattle.octets.specs.Order.{need}
 use Rattle.octets.proofs.Places.{split}
 use Rattle.list.specs.List.{MaybeList}
-use Rattle.list.specs.Answer.{Values, done, refused}
+use Rattle.list.specs.Answer.{Values, refused}
 use Rattle.inherit.specs.Compute.{ordinary, readable}
 use Rattle.tree.specs.General.{bind, isSome}
-use Rattle.tree.specs.Model.{Settings, Object, no-object, object, listBelow, above, listFrom, listOf, listed, Change, add, setList, setMark, setOwners, withList, withMark, withOwners, apply, objectsAfter, shortIf, outcome, changeAnswer}
+use Rattle.tree.specs.Model.{Settings, Object, no-object, object, listBelow, above, listFrom, listOf, listed, Change, add, setList, setMark, setOwners, withList, withMark, withOwners, apply, shortIf, outcome, changeAnswer}
 use Rattle.tree.specs.Calls.{Edit, list, mark, owners}
 use Rattle.tree.specs.Shown.{alteration}
 use Rattle.tree.specs.Apart.{Elsewhere, Apart, changedBy}

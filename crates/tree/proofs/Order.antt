@@ -4,22 +4,19 @@ use mathlib.Core.Path.{_≡_, refl, sym, ap, ap₂, _∙_, subst}
 use mathlib.Core.Bool.{Bool, true, false, not, cond, Bool·beq}
 use mathlib.Core.List.{List, [], _∷_, _++_, map, map-append, List·Permᴰ}
 use mathlib.Core.Logic.{inl}
-use mathlib.Core.Option.{some}
 use Prim.Native.Nat.{ℕ, _<_}
-use native.Mathlib.Omega.{arith}
 use lib.ListN.{length}
 use lib.Dec.{ltb}
 use borrow.Author.Tests.{lt-ltb, ltb-true}
-use Rattle.list.specs.List.{MaybeList}
 use Rattle.list.specs.Answer.{Values}
 use Rattle.tree.specs.General.{isSome, tab}
 use Rattle.tree.specs.Held.{held}
-use Rattle.tree.specs.Room.{objects, keptSteps, slot}
+use Rattle.tree.specs.Room.{objects, slot}
 use Rattle.tree.specs.Model as Model
-use Rattle.tree.specs.Model.{Settings, Object, Part, object, listOf, Tree, objectsOf, begun, answer, next, after}
+use Rattle.tree.specs.Model.{Settings, Object, object, Tree, objectsOf, begun, answer, after}
 use Rattle.tree.specs.Calls.{startTo, answerValues, ChangeGiven}
-use Rattle.tree.specs.Shown.{settingsIn, settingsFrom, objectsIn, listsIn, alteration, changeMeant, Request, start, change, undo, read, counts, meant, readWith, callOn, answerTo, playedOn, answersOn}
-use Rattle.tree.specs.Apart.{Within, Elsewhere, Apart, changedBy, Alter, alters, alteredBy, alteredAnswers, ApartFrom, AllApart, Turn, turnsOf, turnedBy, answersOf, Keeps, InFolders}
+use Rattle.tree.specs.Shown.{settingsFrom, objectsIn, listsIn, changeMeant, Request, start, change, undo, read, counts, meant, callOn, answerTo, playedOn, answersOn}
+use Rattle.tree.specs.Apart.{Within, Elsewhere, Apart, changedBy, Alter, alters, alteredBy, alteredAnswers, AllApart, Turn, turnsOf, turnedBy, answersOf, Keeps, InFolders}
 use Rattle.tree.specs.Same.{NoUndo, SameRooms, SameObject}
 use Rattle.tree.proofs.Tab.{tab-ext}
 use Rattle.tree.proofs.Keeps.{formed-facts}
