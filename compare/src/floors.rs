@@ -293,6 +293,7 @@ pub static ORDER: Floors = Floors {
         ("greatest depth", 10),
         ("most kept steps", 40),
         ("longest list", 1_000),
+        ("most bytes of all lists", 8_000),
     ],
 };
 

@@ -12,8 +12,8 @@ use crate::tree::conditional_at_times;
 use crate::tree::generate::{read, room_length};
 use crate::tree::told::Told;
 use generate::{Maker, Profile};
-use large::TooLong;
-pub use large::{Large, depths, lists_in_turn};
+pub use large::{Large, lists_in_turn};
+use large::{TooLong, depths};
 use second::cases::tree::palette::Palette;
 use second::random::Random;
 use second::room::Found;
@@ -125,17 +125,7 @@ impl Case<'_> {
     }
 
     fn count_reached(&mut self) {
-        let found = self.large().found().expect("a start was done");
-        let depth = depths(&found.objects).into_iter().max();
-        let lists = found.lists.iter().flatten().map(Vec::len);
-        let reached = [
-            ("most objects", found.objects.len()),
-            ("most kept steps", found.steps.len()),
-            ("greatest depth", depth.unwrap_or(0)),
-            ("longest list", lists.clone().max().unwrap_or(0)),
-            ("most bytes of all lists", lists.sum()),
-        ];
-        for (what, value) in reached {
+        for (what, value) in reached(self.found()) {
             self.report.reach(what, value);
         }
     }
@@ -244,6 +234,19 @@ impl Case<'_> {
         }
         self.play(Call::Counts)
     }
+}
+
+/// How large a tree is, and how long its lists are.
+pub fn reached(found: &Found) -> [(&'static str, usize); 5] {
+    let depth = depths(&found.objects).into_iter().max();
+    let lists = found.lists.iter().flatten().map(Vec::len);
+    [
+        ("most objects", found.objects.len()),
+        ("most kept steps", found.steps.len()),
+        ("greatest depth", depth.unwrap_or(0)),
+        ("longest list", lists.clone().max().unwrap_or(0)),
+        ("most bytes of all lists", lists.sum()),
+    ]
 }
 
 /// Where the list of an object below is too long, by its depth and by the

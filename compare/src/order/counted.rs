@@ -2,7 +2,7 @@
 
 use super::apart::within;
 use super::orders::Played;
-use crate::deep::{depths, lists_in_turn};
+use crate::deep::{lists_in_turn, reached};
 use crate::report::Report;
 use second::room::Found;
 use second::tree::{Change, LONGEST_LIST, apply};
@@ -16,15 +16,7 @@ pub fn tree(report: &mut Report, found: &Found) {
         Some(_) => "with a default list",
         None => "without a default list",
     });
-    let depth = depths(&found.objects).into_iter().max();
-    let lists = found.lists.iter().flatten().map(Vec::len);
-    let reached = [
-        ("most objects", found.objects.len()),
-        ("most kept steps", found.steps.len()),
-        ("greatest depth", depth.unwrap_or(0)),
-        ("longest list", lists.max().unwrap_or(0)),
-    ];
-    for (what, value) in reached {
+    for (what, value) in reached(found) {
         report.reach(what, value);
     }
 }

@@ -237,22 +237,16 @@ module _ {long : ℕ} {r : List ℕ} {s : Tree} (T : Together long r s) where
       same-object T (together-then T (change c ∷ [])) k
       (kept-elsewhere s (standing-shown _ _ _ (shows T)) (changeMeant c) k (subst (λ (os : List Object). Elsewhere os (changedBy (changeMeant c) os) k) (shows T .objects-are) w))
 
--- each turn of two in their own folders, seen by the one and by the other
-first-keeps : (os : List Object) (a b : ℕ) → Apart os a b → (zs : List Turn) → InFolders os a b zs → Keeps os true a zs
-first-keeps os a b A [] F = tt
-first-keeps os a b A (z ∷ zs) F = (by (z .first) (F .0), first-keeps os a b A zs (F .1))
+-- turns of two in their own folders, seen by one of them
+own-folder : (os : List Object) (a b : ℕ) → Apart os a b → (who : Bool) (zs : List Turn) → InFolders os a b zs → Keeps os who (cond who a b) zs
+own-folder os a b A who [] F = tt
+own-folder os a b A who (z ∷ zs) F = (by (z .first) who (F .0), own-folder os a b A who zs (F .1))
   where
-    by : (x : Bool) → Within os (cond x a b) (z .change .object) → cond (Bool·beq x true) (Within os a (z .change .object)) (Apart os a (z .change .object))
-    by true v = v
-    by false v = folders-apart os a b a (z .change .object) A (inl refl) v
-
-second-keeps : (os : List Object) (a b : ℕ) → Apart os a b → (zs : List Turn) → InFolders os a b zs → Keeps os false b zs
-second-keeps os a b A [] F = tt
-second-keeps os a b A (z ∷ zs) F = (by (z .first) (F .0), second-keeps os a b A zs (F .1))
-  where
-    by : (x : Bool) → Within os (cond x a b) (z .change .object) → cond (Bool·beq x false) (Within os b (z .change .object)) (Apart os b (z .change .object))
-    by true v = folders-apart os b a b (z .change .object) (apart-turned os a b A) (inl refl) v
-    by false v = v
+    by : (x y : Bool) → Within os (cond x a b) (z .change .object) → cond (Bool·beq x y) (Within os (cond y a b) (z .change .object)) (Apart os (cond y a b) (z .change .object))
+    by true true v = v
+    by true false v = folders-apart os b a b (z .change .object) (apart-turned os a b A) (inl refl) v
+    by false true v = folders-apart os a b a (z .change .object) A (inl refl) v
+    by false false v = v
 
 -- the room that calls reach
 abbrev pub reached : Settings → List ℕ → List Request → List ℕ
@@ -281,9 +275,9 @@ module _ (t : Settings) (r : List ℕ) (h : Model.accepted (answerValues (startT
   -- two people, each in a folder of their own
   pub two-people : (a b : ℕ) → Apart (objectsIn (reached t r qs)) a b → (zs : List Turn) → InFolders (objectsIn (reached t r qs)) a b zs
       → AsIfAlone (reached t r qs) true a zs × AsIfAlone (reached t r qs) false b zs
-  two-people a b A zs F = (as-if-alone true a zs (first-keeps _ a b A zs F), as-if-alone false b zs (second-keeps _ a b A zs F))
+  two-people a b A zs F = (as-if-alone true a zs (own-folder _ a b A true zs F), as-if-alone false b zs (own-folder _ a b A false zs F))
 
   -- and any two mixes of the same turns leave the same room
   pub any-mix : (a b : ℕ) → Apart (objectsIn (reached t r qs)) a b → (zs ys : List Turn) → InFolders (objectsIn (reached t r qs)) a b zs → InFolders (objectsIn (reached t r qs)) a b ys
       → turnsOf true zs ≡ turnsOf true ys → turnsOf false zs ≡ turnsOf false ys → SameRooms (turnedBy zs (reached t r qs)) (turnedBy ys (reached t r qs))
-  any-mix a b A zs ys F G e f = mixes-here (together t r h qs) true a zs ys (first-keeps _ a b A zs F) (first-keeps _ a b A ys G) e f
+  any-mix a b A zs ys F G e f = mixes-here (together t r h qs) true a zs ys (own-folder _ a b A true zs F) (own-folder _ a b A true ys G) e f
