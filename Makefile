@@ -5,6 +5,8 @@
 # make quick    for work between commits, and no verdict: what changed is proved, stored cases, 5,000 comparisons a layer, no edits
 # make edits    every edit, of crates/*/must-fail and of docs/edits: refused by the prover, and seen to change an answer
 # make lib      libpipeteasel.a, for C and whatever calls C (include/pipeteasel.h)
+# make shared   libpipeteasel.so.0, the same as a shared library
+# make install  header, both libraries, pipeteasel.pc for pkg-config, and axs, below PREFIX; make uninstall removes them
 # make compare  the C library and axs against the independent second program: CASES fresh cases, TREES sequences, DEEP of them on trees
 #               at their limits, ORDERS trees on which changes come in two orders, SCRIPTS scripts and PIPED scripts handed to axs
 #               in pieces, all from SEED
@@ -31,17 +33,19 @@ EMULATED = tools/emulated
 
 MACHINE := $(shell uname -m)
 ifeq ($(MACHINE),x86_64)
-CC = gcc
+COMPILER = gcc
+CC = $(COMPILER)
 AXS = target/bin/axs
 else
 # static, as the emulator has no C library but the kit's; compare can't link the library, and links a stand-in
-CC = x86_64-linux-gnu-gcc -static
+COMPILER = x86_64-linux-gnu-gcc
+CC = $(COMPILER) -static
 AXS = target/emulated/axs
 STAND_IN = stand_in
 export PIPETEASEL_LIB = target/emulated
 endif
 
-.PHONY: play axs examples c_examples test quick edits lib second stand_in hostile cases bench
+.PHONY: play axs examples c_examples test quick edits lib shared install uninstall second stand_in hostile cases bench
 .PHONY: compare compare_built compare_tests compare_list compare_compute compare_access compare_condition compare_tree compare_deep
 .PHONY: compare_order compare_script compare_program compare_wording
 
@@ -85,10 +89,45 @@ edits: second
 
 # made anew where something of the layers has changed
 LAYERS = octets condition wording list access inherit tree script capi
+PROGRAM = octets condition list inherit tree script axs
 lib: libpipeteasel.a
 libpipeteasel.a: crates.txt $(shell find $(LAYERS:%=crates/%) -type f)
 	rt staticlib capi
 	cp target/staticlib/libcapi.a libpipeteasel.a
+
+# No file of the C compiler's own start goes in: it has writable data, and the library has none. What it takes of libc is bound
+# as it is loaded, and then nothing of it can be written.
+SHARED = libpipeteasel.so.0
+shared: $(SHARED)
+$(SHARED): libpipeteasel.a pipeteasel.map
+	$(COMPILER) -shared -nostartfiles -Wl,--whole-archive libpipeteasel.a -Wl,--no-whole-archive -Wl,-soname,$(SHARED) \
+		-Wl,--version-script=pipeteasel.map -Wl,-z,relro,-z,now,-z,noexecstack,-z,defs,-z,text -o $@
+
+# as `make axs`, but only where something of the program has changed, so that `make install` has nothing to prove behind `make`
+target/bin/axs: crates.txt $(shell find $(PROGRAM:%=crates/%) -type f)
+	rt check axs >&2
+	touch $@
+
+# Modes are the same whatever the umask is; folders that are there already stay as they are.
+PREFIX ?= /usr/local
+PLACE = $(DESTDIR)$(PREFIX)
+ABSOLUTE = @case '$(PREFIX)' in /*) ;; *) echo "PREFIX is no absolute path: $(PREFIX)" >&2; exit 1;; esac
+
+install: libpipeteasel.a $(SHARED) target/bin/axs
+	$(ABSOLUTE)
+	umask 022 && mkdir -p '$(PLACE)/include' '$(PLACE)/lib/pkgconfig' '$(PLACE)/bin'
+	install -m 644 include/pipeteasel.h '$(PLACE)/include'
+	install -m 644 libpipeteasel.a '$(PLACE)/lib'
+	install -m 755 $(SHARED) '$(PLACE)/lib'
+	ln -sfn $(SHARED) '$(PLACE)/lib/libpipeteasel.so'
+	install -m 644 pipeteasel.pc.in '$(PLACE)/lib/pkgconfig/pipeteasel.pc'
+	sed -i 's|@PREFIX@|$(PREFIX)|' '$(PLACE)/lib/pkgconfig/pipeteasel.pc'
+	install -m 755 target/bin/axs '$(PLACE)/bin'
+
+uninstall:
+	$(ABSOLUTE)
+	rm -f '$(PLACE)/include/pipeteasel.h' '$(PLACE)/lib/libpipeteasel.a' '$(PLACE)/lib/$(SHARED)' '$(PLACE)/lib/libpipeteasel.so' \
+		'$(PLACE)/lib/pkgconfig/pipeteasel.pc' '$(PLACE)/bin/axs'
 
 second:
 	$(CARGO) --manifest-path second/Cargo.toml
