@@ -7,6 +7,7 @@
 # make lib      libpipeteasel.a, for C and whatever calls C (include/pipeteasel.h)
 # make shared   libpipeteasel.so.0, the same as a shared library
 # make install  header, both libraries, pipeteasel.pc for pkg-config, and axs, below PREFIX; make uninstall removes them
+# make python   the library from Python: the example is run and compared, and every call tried (examples/pipeteasel.py)
 # make compare  the C library and axs against the independent second program: CASES fresh cases, TREES sequences, DEEP of them on trees
 #               at their limits, ORDERS trees on which changes come in two orders, SCRIPTS scripts and PIPED scripts handed to axs
 #               in pieces, all from SEED
@@ -36,16 +37,18 @@ ifeq ($(MACHINE),x86_64)
 COMPILER = gcc
 CC = $(COMPILER)
 AXS = target/bin/axs
+FOR_PYTHON = $(SHARED)
 else
-# static, as the emulator has no C library but the kit's; compare can't link the library, and links a stand-in
+# static, as the emulator has no C library but the kit's; compare can't link the library, nor Python load it, and have a stand-in
 COMPILER = x86_64-linux-gnu-gcc
 CC = $(COMPILER) -static
 AXS = target/emulated/axs
+FOR_PYTHON = target/emulated/$(SHARED)
 STAND_IN = stand_in
 export PIPETEASEL_LIB = target/emulated
 endif
 
-.PHONY: play axs examples c_examples test quick edits lib shared install uninstall second stand_in hostile cases bench
+.PHONY: play axs examples c_examples test quick edits lib shared install uninstall python second stand_in hostile cases bench
 .PHONY: compare compare_built compare_tests compare_list compare_compute compare_access compare_condition compare_tree compare_deep
 .PHONY: compare_order compare_script compare_program compare_wording
 
@@ -106,7 +109,7 @@ $(SHARED): libpipeteasel.a pipeteasel.map
 # as `make axs`, but only where something of the program has changed, so that `make install` has nothing to prove behind `make`
 target/bin/axs: crates.txt $(shell find $(PROGRAM:%=crates/%) -type f)
 	rt check axs >&2
-	touch $@
+	touch -c $@
 
 # Modes are the same whatever the umask is; folders that are there already stay as they are.
 PREFIX ?= /usr/local
@@ -129,6 +132,12 @@ uninstall:
 	rm -f '$(PLACE)/include/pipeteasel.h' '$(PLACE)/lib/libpipeteasel.a' '$(PLACE)/lib/$(SHARED)' '$(PLACE)/lib/libpipeteasel.so' \
 		'$(PLACE)/lib/pkgconfig/pipeteasel.pc' '$(PLACE)/bin/axs'
 
+python: export PIPETEASEL_LIBRARY = $(CURDIR)/$(FOR_PYTHON)
+python: shared $(STAND_IN)
+	@mkdir -p target
+	python3 -B examples/from_python.py >target/from_python.txt && diff target/from_python.txt examples/from_python.out
+	tools/from_python
+
 second:
 	$(CARGO) --manifest-path second/Cargo.toml
 
@@ -137,8 +146,9 @@ stand_in: lib
 	mkdir -p target/emulated
 	$(CC) $(C99) -O2 compare/emulated/driver.c -L. -lpipeteasel -o target/emulated/driver
 	gcc $(C99) -O2 -DEMULATED='"$(CURDIR)/tools/emulated"' -DDRIVER='"$(CURDIR)/target/emulated/driver"' \
-		-c compare/emulated/stand_in.c -o target/emulated/stand_in.o
+		-fPIC -c compare/emulated/stand_in.c -o target/emulated/stand_in.o
 	ar rcs target/emulated/libpipeteasel.a target/emulated/stand_in.o
+	gcc -shared -pthread target/emulated/stand_in.o -o target/emulated/$(SHARED)
 	printf '#!/bin/sh\nexec "%s/tools/emulated" "%s/target/bin/axs" "$$@"\n' "$(CURDIR)" "$(CURDIR)" >target/emulated/axs
 	chmod +x target/emulated/axs
 
