@@ -202,7 +202,10 @@ def _call(name, *arguments):
 
 
 def _number(value, what, least=0, most=0xFFFFFFFF):
-    value = operator.index(value)
+    try:
+        value = operator.index(value)
+    except TypeError:
+        raise TypeError(f"{what}: a whole number, not {value.__class__.__name__}") from None
     if not least <= value <= most:
         raise ValueError(f"{what}: {value} is not in {least} to {most}")
     return value
