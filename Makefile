@@ -81,8 +81,10 @@ test:
 
 quick:
 	tools/claims
+	tools/header
 	rt check
 	$(MAKE) --no-print-directory lib
+	tools/archive
 	$(MAKE) --no-print-directory -j2 --output-sync=target compare CASES=5000 TREES=5000 DEEP=2 ORDERS=500 SCRIPTS=5000 PIPED=100
 	@echo "quick: all held; no edit was tried, and the gate asks for more: no verdict"
 
@@ -114,10 +116,11 @@ target/bin/axs: crates.txt $(shell find $(PROGRAM:%=crates/%) -type f)
 # Modes are the same whatever the umask is; folders that are there already stay as they are.
 PREFIX ?= /usr/local
 PLACE = $(DESTDIR)$(PREFIX)
-ABSOLUTE = @case '$(PREFIX)' in /*) ;; *) echo "PREFIX is no absolute path: $(PREFIX)" >&2; exit 1;; esac
+PLACE_OK = @case '$(PREFIX)' in /*) ;; *) echo "PREFIX is no absolute path: $(PREFIX)" >&2; exit 1;; esac; \
+	[ ! '$(PLACE)/include' -ef include ] || { echo "PREFIX is this folder itself: $(PLACE)" >&2; exit 1; }
 
 install: libpipeteasel.a $(SHARED) target/bin/axs
-	$(ABSOLUTE)
+	$(PLACE_OK)
 	umask 022 && mkdir -p '$(PLACE)/include' '$(PLACE)/lib/pkgconfig' '$(PLACE)/bin'
 	install -m 644 include/pipeteasel.h '$(PLACE)/include'
 	install -m 644 libpipeteasel.a '$(PLACE)/lib'
@@ -128,7 +131,7 @@ install: libpipeteasel.a $(SHARED) target/bin/axs
 	install -m 755 target/bin/axs '$(PLACE)/bin'
 
 uninstall:
-	$(ABSOLUTE)
+	$(PLACE_OK)
 	rm -f '$(PLACE)/include/pipeteasel.h' '$(PLACE)/lib/libpipeteasel.a' '$(PLACE)/lib/$(SHARED)' '$(PLACE)/lib/libpipeteasel.so' \
 		'$(PLACE)/lib/pkgconfig/pipeteasel.pc' '$(PLACE)/bin/axs'
 

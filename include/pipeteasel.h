@@ -1,20 +1,41 @@
 /* Pipeteasel: access lists whose inheritance, undo and refusals are proved.
  *
- * Every call checks what it is handed, whatever bytes that is. A null pointer is allowed where its length is 0.
- * Ranges that a call may change overlap no other; those that it only reads may be the same or overlap.
- * Nothing that was lent changes where a call refuses; the answer itself is written always, and so is pt_step's entry.
- * The tree's calls that change it use some 240 KB of stack.
+ * Every call checks what it is handed, whatever bytes that is, and refuses with the number that fits the fault. Nothing that was lent
+ * changes where a call refuses; the answer itself is written always, and so is pt_step's entry.
+ *
+ * What a caller must know, as no call can check it:
+ *   - A range is a pointer and a length: in bytes, but row_len counts the elements of row, not its bytes (sizeof row would lend twice
+ *     the row). A range has less than 2^63 bytes. Its pointer may be null where its length is 0.
+ *   - mapping, type, entry and answer are never null.
+ *   - row is aligned for uint16_t, mapping, entry and answer for uint32_t. Ranges of bytes lie wherever they like.
+ *   - What a call may write (a room that isn't const, out, row, entry, answer) overlaps nothing else that it is lent: not the list, not
+ *     the room, not each other. What it only reads may be one range or overlap: one SID may be handed over as owner and group.
+ *   - A flag is yes where it isn't 0: has_list, has_default, mark. Bits of settings and traits that have no name here aren't looked at.
+ *   - A list that isn't given, by its flag, setting or trait, isn't looked at, whatever is passed for it: null and 0 do. A list of length
+ *     0 that is given is no list, and refused by 1.
+ *   - Any number of threads may call at once, as long as no range that one of them may write is lent to another. The library has no
+ *     writable data, holds on to nothing that it is lent, allocates nothing, and needs memcpy and memset of C's library alone.
+ *   - It is compiled for x86-64 Linux, with the calling convention of that system.
+ *   - The stack at the call has to suffice: the table behind the numbers says how much each call takes.
  *
  * An answer is eight numbers:
  *   0  the number: 0 done, or why the call refused (PT_..., below)
  *   1  which list a refusal concerns: 1 parent, 2 creator, own or set list, 3 default; else 0
  *   2  the offset of a refusal's entry; of pt_condition's 16 the offset in the text; else 0
  *   3  done: the length; of pt_may_open and pt_may_open_with 1 for yes and 0 for no; of pt_evaluate 0 false, 1 true, 2 unknown;
- *      of pt_step where the entry begins, 0 where none is left
- *   4  done: 1 present, 0 absent; of pt_may_open, pt_may_open_with and pt_evaluate 0; of pt_step 1, or 0 where no entry is left
- *   5  done: the entry count; of pt_condition the number of tokens; of pt_may_open, pt_may_open_with, pt_evaluate and pt_step 0
- *   6  done: the control bits
+ *      of pt_step where the entry begins, 0 where none is left; of pt_counts how many objects stand
+ *   4  done: 1 present, 0 absent; of pt_may_open, pt_may_open_with and pt_evaluate 0; of pt_step 1, or 0 where no entry is left;
+ *      of pt_play 1 for a listing, 0 where the script is bad
+ *   5  done: the entry count; of pt_condition the number of tokens; of pt_counts the kept steps; of pt_play the objects in the listing;
+ *      of pt_may_open, pt_may_open_with, pt_evaluate, pt_step and pt_data 0
+ *   6  done, of pt_compute: the control bits, PT_AUTO_INHERITED or 0; else 0
  *   7  done, of pt_read: where the entries end, 8 where there are none; else 0
+ * pt_start and pt_undo, done, answer zeros. A refusal's places 3 to 7 are 0.
+ *
+ * Each number below names the calls that give it. There,
+ *   calls with a list: pt_read, pt_step, pt_may_open, pt_may_open_with, pt_compute, pt_start, pt_add and pt_set_list
+ *   changes: pt_add, pt_set_list, pt_set_mark and pt_set_owner
+ *   reading back: pt_list, pt_own and pt_data
  */
 #ifndef PIPETEASEL_H
 #define PIPETEASEL_H
@@ -28,28 +49,43 @@ extern "C" {
 
 enum {
     PT_DONE = 0,
-    PT_HEADER = 1,   /* list under 8 bytes, revision not 2 or 4, zero bytes not zero, size not the length */
-    PT_SIZE = 2,     /* an entry doesn't fit or its size is wrong */
-    PT_TYPE = 3,     /* entry type not 00, 01, 05, 06, 09, 0A, or 05 and 06 under revision 2 */
-    PT_BITS = 4,     /* an unknown bit in the flags or in the object word */
-    PT_SID = 5,      /* SID first byte not 1, or n above 15, in an entry */
+    PT_HEADER = 1,   /* list under 8 bytes, revision not 2 or 4, zero bytes not zero, size not the length. From calls with a list. */
+    PT_SIZE = 2,     /* an entry doesn't fit or its size is wrong. From calls with a list. */
+    PT_TYPE = 3,     /* entry type not 00, 01, 05, 06, 09, 0A, or 05 and 06 under revision 2. From calls with a list. */
+    PT_BITS = 4,     /* an unknown bit in the flags or in the object word. From calls with a list. */
+    PT_SID = 5,      /* SID first byte not 1, or n above 15, in an entry. From calls with a list. */
     PT_IDENTITY = 6, /* owner or group isn't exactly one SID, or is a placeholder; of pt_may_open and pt_may_open_with: the held
-                        bytes aren't SIDs to their end (placeholders are allowed there) */
+                        bytes aren't SIDs to their end (placeholders are allowed there); of pt_identity, which gives it back: not
+                        exactly one SID. From pt_identity, pt_may_open, pt_may_open_with, pt_compute, pt_add and pt_set_owner. */
     PT_TYPES = 7,    /* object types not a multiple of 16 bytes, or over 64 bytes; of pt_may_open and pt_may_open_with: more than 32
-                        SIDs held */
+                        SIDs held. From pt_may_open, pt_may_open_with and pt_compute. */
     PT_ROOM = 8,     /* no room: a result or a stored form over the lent length, or a result over 65,532 bytes; an index row too
-                        short; in a tree a list given, or any list that the change or undo would compute, over 1,024 bytes */
-    PT_OBJECT = 9,   /* no such object; parent missing, not a container, or not as the first or later add asks */
-    PT_FULL = 10,    /* object limit reached */
-    PT_NO_STEP = 11, /* undo with no kept step */
-    PT_RULE = 12,    /* limits or rule out of range, or lent room under the formula */
-    PT_TREE = 13,    /* the room handed in isn't a well-formed tree */
-    PT_GENERIC = 14, /* a generic bit (F0000000) is wanted */
-    PT_EXPRESSION = 15, /* the expression of a conditional entry, or one handed to pt_evaluate, isn't acceptable */
-    PT_TEXT = 16,    /* a condition's text over 512 bytes, not in the grammar or nested too deep */
-    PT_LARGE = 17,   /* a condition's text that comes to over 64 tokens or depth 16 */
-    PT_TABLE = 23    /* a table that isn't made as pt_evaluate says */
+                        short; in a tree a list given, or any list that the change or undo would compute, over 1,024 bytes. From
+                        pt_read, pt_condition, pt_compute, pt_start, changes, pt_undo, reading back and pt_play. */
+    PT_OBJECT = 9,   /* no such object; parent missing, not a container, or not as the first or later add asks. From changes and
+                        reading back. */
+    PT_FULL = 10,    /* object limit reached. From pt_add. */
+    PT_NO_STEP = 11, /* undo with no kept step. From pt_undo. */
+    PT_RULE = 12,    /* limits or rule out of range, or lent room under the formula. From pt_compute and pt_start. */
+    PT_TREE = 13,    /* the room handed in isn't a well-formed tree. From changes, pt_undo, reading back and pt_counts. */
+    PT_GENERIC = 14, /* a generic bit (F0000000) is wanted. From pt_may_open and pt_may_open_with. */
+    PT_EXPRESSION = 15, /* the expression of a conditional entry, or one handed to pt_evaluate, isn't acceptable. From calls with a list
+                           and pt_evaluate. */
+    PT_TEXT = 16,    /* a condition's text over 512 bytes, not in the grammar or nested too deep. From pt_condition. */
+    PT_LARGE = 17,   /* a condition's text that comes to over 64 tokens or depth 16. From pt_condition. */
+    PT_TABLE = 23    /* a table that isn't made as pt_evaluate says. From pt_may_open_with and pt_evaluate. */
 };
+
+/* Stack that a call takes at most, its return address among it, but not what memcpy and memset take: a few bytes, or some 3,200 at a
+ * program's first call of them where the dynamic linker binds them as late as that.
+ *   64 bytes  pt_identity, pt_room
+ *   768 bytes  pt_evaluate
+ *   1,024 bytes  pt_read, pt_step, pt_start, pt_list, pt_own, pt_data, pt_counts
+ *   1,280 bytes  pt_may_open, pt_may_open_with
+ *   2,048 bytes  pt_compute
+ *   245,760 bytes  pt_condition, pt_add, pt_set_list, pt_set_mark, pt_set_owner, pt_undo
+ *   348,160 bytes  pt_play
+ */
 
 /* Settings of a computation: bits of a number. Other bits aren't looked at. */
 enum {
@@ -61,6 +97,10 @@ enum {
     PT_DEFAULT_DESCRIPTOR = 32,
     PT_PROTECTED = 64
 };
+
+/* The control bit of a computed list, in place 6: what the parent hands on was put into it, though it may have handed on nothing. It is
+ * MS-DTYP's DI, "DACL Auto-Inherited". */
+#define PT_AUTO_INHERITED 0x0400u
 
 /* Which identity the bytes are: 0 exactly one SID and no placeholder, 1 creator owner (S-1-3-0),
  * 2 creator group (S-1-3-1), 6 not exactly one SID. */
@@ -84,8 +124,8 @@ uint32_t pt_identity(const uint8_t *bytes, size_t bytes_len);
 
 /* Reads an access list. Done: the row's elements up to the entry count hold the entries' offsets, and the rest are as they were;
  * place 7 is where the entries end and spare bytes begin. Refused, by 1 to 5 and 15 and then 8: no element changes.
- * row_len counts elements, not bytes. 4,095 elements are enough for every list, with spare bytes or without: an entry has at least
- * 16 bytes, and no more than 65,527 can follow a header. */
+ * row_len counts elements, not bytes. 4,095 elements always suffice, with spare bytes or without: an entry has at least 16 bytes, and
+ * no more than 65,527 can follow a header. */
 void pt_read(const uint8_t *list, size_t list_len, uint16_t *row, size_t row_len, uint32_t answer[8]);
 
 /* The viewer's walk over a list, entry by entry, where they lie. place: 0 to begin with, then entry[7] of the last call, until
@@ -150,7 +190,7 @@ void pt_condition(const uint8_t *text, size_t text_len, uint8_t *out, size_t out
  * 80000000, 40000000, 20000000, 10000000. Under rule 2 these four bits are cleared then, those too that a mapping brought in; under
  * rule 1 they stay, and 10000000 joins nothing. What is passed for a list that isn't present is not looked at. Tests in order: rule
  * 12, parent, creator and default 1 to 5 and 15 (lists 1, 2, 3), owner and group 6, types 7, room 8. Refused, or where the result
- * is absent, no byte of out changes. */
+ * is absent, no byte of out changes. No result has more than 65,532 bytes. */
 void pt_compute(uint32_t rule, uint32_t settings, const uint32_t mapping[4],
                 const uint8_t *parent, size_t parent_len, const uint8_t *creator, size_t creator_len,
                 const uint8_t *default_, size_t default_len, const uint8_t *types, size_t types_len,
@@ -193,7 +233,8 @@ void pt_set_owner(uint8_t *room, size_t room_len, uint32_t object, const uint8_t
 void pt_undo(uint8_t *room, size_t room_len, uint32_t answer[8]);
 
 /* Reading back, onto the front of out: the computed list, the own list, and own data but for the list (parent byte, FF none, kind,
- * mark, 16 type bytes, owner length, owner, group length, group; its count is 0). Tests in order: 13, 9, 8. */
+ * mark, 16 type bytes, owner length, owner, group length, group; its count is 0). Bytes past the result stay as they were. 1,024 bytes
+ * always suffice for a list, and 157 for own data. Tests in order: 13, 9, 8. */
 void pt_list(const uint8_t *room, size_t room_len, uint32_t object, uint8_t *out, size_t out_len, uint32_t answer[8]);
 void pt_own(const uint8_t *room, size_t room_len, uint32_t object, uint8_t *out, size_t out_len, uint32_t answer[8]);
 void pt_data(const uint8_t *room, size_t room_len, uint32_t object, uint8_t *out, size_t out_len, uint32_t answer[8]);
@@ -204,7 +245,7 @@ void pt_counts(const uint8_t *room, size_t room_len, uint32_t answer[8]);
 /* Plays a whole script held in memory, in a room of its own (16 objects, 16 steps, rule 2), and writes the text that the program
  * axs writes: the listing, or `bad at N`. Refuses with 8 alone, where out is shorter than the text; then out is unchanged.
  * Done: the text's length in place 3; 1 in place 4 where it is the listing, 0 where the script is bad; in place 5 the number of
- * objects in the listing. A listing has at most 203 bytes. Uses some 340 KB of stack. */
+ * objects in the listing. A listing has at most 203 bytes, and `bad at N` at most 28. */
 void pt_play(const uint8_t *script, size_t script_len, uint8_t *out, size_t out_len, uint32_t answer[8]);
 
 #ifdef __cplusplus

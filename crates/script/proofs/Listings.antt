@@ -1,20 +1,22 @@
 -- Laws of the listing: its lines, what the tree answers for each, and the text on the front of what is lent for it.
 use mathlib.Core.Path.{_≡_, refl, sym, ap, _∙_}
-use mathlib.Core.List.{List, [], _++_}
+use mathlib.Core.List.{List, [], _∷_, _++_}
 use mathlib.Core.Bool.{Bool, true, false, cond}
 use mathlib.Core.Option.{none, some}
-use Prim.Native.Nat.{ℕ, _+_, _*_, _≤_, _<_}
+use Prim.Native.Nat.{ℕ, zero, suc, _+_, _*_, _≤_, _<_}
 use native.Mathlib.Nat.{zero-add}
 use native.Mathlib.Numerals.{add-one}
 use native.Mathlib.Omega.{arith}
-use lib.ListN.{length, getD}
-use Rattle.list.specs.List.{MaybeList}
+use lib.ListN.{length, getD, take, drop, length-append}
+use Rattle.list.specs.List.{MaybeList, countOf, lent}
+use Rattle.octets.specs.Bytes.{Bytes, le, part}
+use Rattle.octets.proofs.Little.{bytes-drop, le-lt}
 use Rattle.octets.proofs.Tests.{tests}
 use Rattle.tree.specs.Shown.{listsIn}
 use Rattle.tree.specs.declared.Answer.{Answer}
 use Rattle.tree.specs.declared.Answer.the-variants.{Done, Refused}
 use Rattle.tree.specs.Held.{hasList, bytesIn, held}
-use Rattle.tree.specs.Room.{objects, slot}
+use Rattle.tree.specs.Room.{objects, slotAt, slot}
 use Rattle.tree.specs.Formed.{formed}
 use Rattle.octets.specs.Order.{need}
 use Rattle.tree.proofs.Numbers.{Numbered, promised, numbered-need, numbered-copied}
@@ -24,7 +26,7 @@ use Rattle.tree.proofs.Tab.{length-tab, getD-tab}
 use Rattle.script.specs.Text.{decimal, objects-text, none-text, space, newline, columnsBy, columns, line, lines, heading, listing, badLine}
 use Rattle.script.specs.Inner.Laying.{laidAt}
 use Rattle.script.specs.Play.{Ending, Listed, BadAt, textOf, endingAnswer, textTo, listingTo}
-use Rattle.script.proofs.Laid.{laid-nothing, laid-all, Lays, lays, lays-then}
+use Rattle.script.proofs.Laid.{decimal-20, laid-nothing, laid-all, Lays, lays, lays-then}
 
 -- ---- the columns
 
@@ -181,3 +183,56 @@ listing-refused r out {k} {w} {at} e = promised (listingTo r out) (listing-numbe
     by : (b : Bool) → formed r ≡ b → (Refused k w at ≡ listingTo r out .answer) × (out ≡ listingTo r out .bytes)
     by true f = let g = rw f at e in let z : _≡_ {A = ℕ} 0 1 = cc in absurd (omega arith)
     by false f = let g = rw f at e in rw f (sym g, refl)
+
+-- ---- 4,096 bytes are room enough for every text
+
+pub bytes-take : (n : ℕ) (s : List ℕ) → Bytes s → Bytes (take n s)
+bytes-take zero s h i = omega arith
+bytes-take (suc n) [] h i = omega arith
+bytes-take (suc n) (x ∷ s) h zero = h 0
+bytes-take (suc n) (x ∷ s) h (suc i) = bytes-take n s (λ j. h (suc j)) i
+
+bytes-part : (at n : ℕ) (s : List ℕ) → Bytes s → Bytes (part at n s)
+unfolding part
+bytes-part at n s b = bytes-take n (drop at s) (bytes-drop at s b)
+
+held-bytes : (i : ℕ) (r : List ℕ) → Bytes r → Bytes (bytesIn (slot i r))
+unfolding bytesIn slot
+held-bytes i r b = bytes-part 0 (le 2 (drop 1 (slot i r))) (part 3 1024 (slot i r)) (bytes-part 3 1024 (slot i r) (bytes-part (slotAt i) 1027 r b))
+
+columns-most : (s : List ℕ) → Bytes (bytesIn s) → length (columns (held s)) ≤ 41
+unfolding columns columnsBy
+columns-most s b = by (hasList s)
+  where
+    by : (is : Bool) → length (columns (lent is (bytesIn s))) ≤ 41
+    by true =
+        let n = decimal-20 (length (bytesIn s)) (omega (arith, bytes-most s)) in
+        let m : countOf (bytesIn s) < 65536 = le-lt 2 (drop 4 (bytesIn s)) (bytes-drop 4 (bytesIn s) b) in
+        let k = decimal-20 (countOf (bytesIn s)) (omega arith) in
+        simp length-append (omega arith)
+    by false = omega arith
+
+lines-most : (r : List ℕ) → Bytes r → (n : ℕ) → n ≤ objects r → n ≤ 64 → length (lines n (listsIn r)) ≤ 63 * n
+unfolding lines line
+lines-most r b zero h l = omega arith
+lines-most r b (suc n) h l =
+    let m = lines-most r b n (omega arith) (omega arith) in
+    let d = decimal-20 n (omega arith) in
+    let c = columns-most (slot n r) (held-bytes n r b) in
+    rw (lists-at r n (omega arith)) (simp length-append (omega arith))
+
+heading-most : (n : ℕ) → n ≤ 64 → length (heading n) ≤ 29
+unfolding heading
+heading-most n h = let d = decimal-20 n (omega arith) in simp length-append (omega arith)
+
+pub listing-most : (r : List ℕ) → formed r ≡ true → Bytes r → length (textOf (Listed (listsIn r))) ≤ 4096
+unfolding textOf listing
+listing-most r f b =
+    let m = objects-most r f in
+    let h = heading-most (objects r) m in
+    let l = lines-most r b (objects r) (omega arith) m in
+    rw (lists-length r) (simp length-append (omega arith))
+
+pub bad-most : (n : ℕ) → n < 18446744073709551616 → length (textOf (BadAt n)) ≤ 4096
+unfolding textOf badLine
+bad-most n h = let d = decimal-20 n h in simp length-append (omega arith)

@@ -1,0 +1,5 @@
+pub mod Courses
+pub mod Turns
+pub mod Speeches
+pub mod Inputs
+pub mod Worked

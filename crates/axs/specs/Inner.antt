@@ -1,0 +1,2 @@
+-- What only private functions' contracts cite: no public promise rests on it.
+pub mod Buffered
