@@ -148,7 +148,8 @@ module _ (t p r : List ℕ) (came : length p ≡ 0 → ⊥) (far : length (t ++ 
         ∙ records-more 5 (drop 5 t) p fresh (omega arith) came l
         ∙ sym (head-good (t ++ p) r longer (head-then t p h ∙ e) ∙ ap (λ (a : List ℕ). onRecords 5 a fresh) d)
 
-  pub piece-more : thenRead (onHead t r) (Gave p) ≡ onHead (t ++ p) r
+  -- t came, and then p: the course is that of both at once
+  piece-more : thenRead (onHead t r) (Gave p) ≡ onHead (t ++ p) r
   piece-more = split 5 (length t) (λ h. by h (scriptHeadOk t) refl) more-short
     where
       by : 5 ≤ length t → (b : Bool) → scriptHeadOk t ≡ b → thenRead (onHead t r) (Gave p) ≡ onHead (t ++ p) r
@@ -168,16 +169,15 @@ unfoldable Told : List ℕ → Course → Type 0
 Told s (On g) = Unit
 Told s (Over e q) = Ends s e q
 
--- the input ends in a course that has taken it all in
+-- a course after a read that found the input's end
 abbrev ended : Course → Course
 ended c = thenRead c (Gave [])
 
 module _ (s r : List ℕ) (far : length s ≤ most) where
   -- no head
-  module _ (h : scriptHeadOk s ≡ false) where
-    wrong-head : endingOf s ≡ BadAt 0
-    unfolding endingOf
-    wrong-head = rw h refl
+  wrong-head : scriptHeadOk s ≡ false → endingOf s ≡ BadAt 0
+  unfolding endingOf
+  wrong-head h = rw h refl
 
   -- a head, and the records behind it
   module _ (long : 5 ≤ length s) (h : scriptHeadOk s ≡ true) where
@@ -241,15 +241,6 @@ module _ (s r : List ℕ) (far : length s ≤ most) where
       by h true e = rw (head-good s r h e) (records-end h e)
       by h false e = rw (head-bad s r h e) (wrong-head e)
 
--- the lemmas of an ending: all of s came, and the run is over; or it is over once the input ends
-pub head-ends : (s r : List ℕ) → length s ≤ most → (e : End) (q : List ℕ) → onHead s r ≡ Over e q → Ends s e q
-unfolding Told
-head-ends s r far e q f = subst (Told s) f (all-told s r far)
-
-pub input-ends-here : (s r : List ℕ) → length s ≤ most → (e : End) (q : List ℕ) → thenRead (onHead s r) (Gave []) ≡ Over e q → Ends s e q
-unfolding Told
-input-ends-here s r far e q f = subst (Told s) f (end-told s r far)
-
 -- ---- all reads
 
 -- a run that is over stays as it is
@@ -291,6 +282,7 @@ told-by (Gave (b ∷ p) ∷ xs) t s r (u, (e, i)) far =
     rw (f, piece-more t (b ∷ p) r (λ z. omega arith) k) (told-by xs (t ++ (b ∷ p)) u r i l)
 told-by (Broke ∷ xs) t s r i far = absurd i
 
+-- from the beginning
 told : (rs : List Read) (s r : List ℕ) → InputOf rs s → length s ≤ most → Told s (courseOf rs (nothingRead r))
 unfolding nothingRead onHead
 told rs s r i far = told-by rs [] s r i far
@@ -300,6 +292,7 @@ pub input-ends : (rs : List Read) (s r : List ℕ) → InputOf rs s → length s
 unfolding Told
 input-ends rs s r i far e q f = subst (Told s) f (told rs s r i far)
 
+-- what a course of the input s says
 said-by : (s : List ℕ) (c : Course) → Told s c → (x : Speech) → speechOf c ≡ some x → x ≡ record { to = pos 1; text = textOf (endingOf s) }
 unfolding Told Ends speechOf speech
 said-by s (On g) h x f = let z : _≡_ {A = ℕ} 0 1 = cc in absurd (omega arith)
@@ -326,12 +319,14 @@ handed [] = Gave [] ∷ []
 handed ([] ∷ ps) = handed ps
 handed ((b ∷ p) ∷ ps) = Gave (b ∷ p) ∷ handed ps
 
+-- these reads are of that input
 pub handed-input : (ps : List (List ℕ)) → InputOf (handed ps) (allPieces ps)
 unfolding InputOf handed allPieces
 handed-input [] = refl
 handed-input ([] ∷ ps) = handed-input ps
 handed-input ((b ∷ p) ∷ ps) = (allPieces ps, (refl, handed-input ps))
 
+-- a run whose input ended says something
 says-some : (c : Course) → (x : Speech) × (speechOf (ended c) ≡ some x)
 unfolding thenRead afterRead speechOf
 says-some (On g) = (speech (endAt (g .at) (length (g .left))) (g .room), refl)

@@ -9,9 +9,9 @@ use lib.IntN.{pos}
 use Rattle.octets.specs.Bytes.{le}
 use Rattle.tree.specs.Shown.{listsIn}
 use Rattle.tree.specs.Model.{objectsOf}
-use Rattle.tree.proofs.Trees.{model-open, calls-open}
-use Rattle.script.specs.Record.{nameEnd, listEnd, recordSize, formOk, stepOf}
-use Rattle.script.specs.Fold.{past, onStep, runBy, runOf, onCall, callsBy, callsOf, allPieces}
+use Rattle.tree.proofs.Trees.{model-open}
+use Rattle.script.specs.Record.{recordSize, formOk, stepOf}
+use Rattle.script.specs.Fold.{onStep, runBy, runOf, onCall, callsBy, callsOf, allPieces}
 use Rattle.script.specs.Text.{digits, decimal, lines, heading, listing, badLine}
 use Rattle.script.specs.Play.{scriptHeadOk, Listed, fresh, endingAfter, endingOf, textOf}
 use Rattle.script.proofs.Folds.{run-none}
@@ -29,14 +29,16 @@ head-whole : endingOf head ≡ Listed (listsIn fresh)
 unfolding le scriptHeadOk endingAfter endingOf
 head-whole = rw (run-none fresh) refl
 
+-- no record, no object
 none-made : length (objectsOf (treeOf head)) ≡ 0
-unfolding le nameEnd listEnd recordSize formOk stepOf onCall callsBy callsOf calls-open model-open
+unfolding recordSize stepOf onCall callsBy callsOf model-open
 none-made = refl
 
 no-lists : {A : Type 0} (os : List A) → length os ≡ 0 → os ≡ []
 no-lists [] n = refl
 no-lists (x ∷ os) n = absurd (omega arith)
 
+-- its one line, byte for byte
 head-listed : textOf (endingOf head) ≡ 111 ∷ 98 ∷ 106 ∷ 101 ∷ 99 ∷ 116 ∷ 115 ∷ 32 ∷ 48 ∷ 10 ∷ []
 unfolding digits decimal lines heading listing textOf
 head-listed =
@@ -63,7 +65,7 @@ cut-said r = refl
 pub bad-said : (r : List ℕ)
     → speechOf (courseOf (Gave (0x41 ∷ 0x58 ∷ 0x53 ∷ 1 ∷ 0 ∷ []) ∷ Gave (9 ∷ []) ∷ []) (nothingRead r))
     ≡ some (record { to = pos 1; text = 98 ∷ 97 ∷ 100 ∷ 32 ∷ 97 ∷ 116 ∷ 32 ∷ 53 ∷ 10 ∷ [] })
-unfolding le nameEnd listEnd recordSize formOk stepOf past onStep runBy runOf digits decimal badLine scriptHeadOk textOf onRecords onHead onBytes endAt afterRead thenRead courseOf nothingRead speech speechOf
+unfolding le recordSize formOk stepOf onStep runBy runOf digits decimal badLine scriptHeadOk textOf onRecords onHead onBytes afterRead thenRead courseOf nothingRead speech speechOf
 bad-said r = refl
 
 -- two bytes, and then a read that fails: the input could not be read
