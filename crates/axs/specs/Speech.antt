@@ -1,10 +1,13 @@
 -- What the program says once a run is over, and where.
-use Prim.Native.Nat.{ℕ, _≤_}
+use Prim.Native.Nat.{ℕ, _-_, _≤_}
 use mathlib.Core.Path.{_≡_}
+use mathlib.Core.Bool.{Bool, true, false, cond}
 use mathlib.Core.List.{List, [], _∷_}
 use mathlib.Core.Option.{Option, some, none}
 use lib.ListN.{length, take}
+use lib.Dec.{eqb}
 use lib.IntN.{ℤ, pos}
+use Rattle.io.specs.Counts.{clamped}
 use Rattle.tree.specs.Shown.{listsIn}
 use Rattle.script.specs.Play.{Listed, BadAt, textOf}
 use Rattle.axs.specs.declared.End.{End}
@@ -51,3 +54,14 @@ pub record RunSays (r : List ℕ) (x : Said) (b : List ℕ) : Type 0 where
   pub speaks : Speech
   pub is : speechOf (courseOf reads (nothingRead r)) ≡ some speaks
   pub said : Spoken x b speaks
+
+-- ---- writing
+
+-- whether a text of n bytes was taken whole, by the answers of the writes: each was lent all that is left, and one that takes nothing is the last
+unfoldable pub wholeBy : List ℤ → ℕ → Bool
+wholeBy [] n = eqb n 0
+wholeBy (z ∷ zs) n = cond (eqb n 0) true (cond (eqb (clamped z n) 0) false (wholeBy zs (n - clamped z n)))
+
+-- there are writes by which it was, or wasn't
+unfoldable pub Written : ℕ → Bool → Type 0
+Written n whole = (zs : List ℤ) × (whole ≡ wholeBy zs n)

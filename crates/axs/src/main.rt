@@ -8,7 +8,7 @@ ghost use mathlib.Core.Path.{_≡_};
 ghost use lib.ListN.{length, take, drop};
 ghost use Rattle.axs.specs.declared.End.the-variants.{Failed as End·Failed};
 ghost use Rattle.axs.specs.Reads.{endAt, onHead, onRecords, afterRead, Reached};
-ghost use Rattle.axs.specs.Speech.{speech, Spoken, RunSays};
+ghost use Rattle.axs.specs.Speech.{speech, Spoken, RunSays, Written};
 ghost use Rattle.axs.specs.Inner.Buffered.{boundAt, readBy, standAt, courseAt, Onward, saidOn, Listable};
 use libc::STDERR_FILENO;
 use libc::STDIN_FILENO;
@@ -211,7 +211,9 @@ fn run(room: &mut [u8], buffer: &mut [u8], out: &mut [u8]) -> Said
 }
 
 // Writes a text, and says whether all of it was taken.
-fn write_all(to: i32, text: &[u8]) -> bool {
+fn write_all(to: i32, text: &[u8]) -> bool
+    ensures { λ r. ⌜ Written (length (now (text .entry))) r ⌝ }
+{
     let mut done = 0;
     while done < text.len() {
         let left = &text[done..];
