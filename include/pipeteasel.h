@@ -13,8 +13,9 @@
  *   - A flag is yes where it isn't 0: has_list, has_default, mark. Bits of settings and traits that have no name here aren't looked at.
  *   - A list that isn't given, by its flag, setting or trait, isn't looked at, whatever is passed for it: null and 0 do. A list of length
  *     0 that is given is no list, and refused by 1.
- *   - Any number of threads may call at once, as long as no range that one of them may write is lent to another. The library has no
- *     writable data, holds on to nothing that it is lent, allocates nothing, and needs memcpy and memset of C's library alone.
+ *   - The library is reentrant: any number of threads may call at once, as long as no range that one of them may write is lent to
+ *     another. It has no writable data, holds on to nothing that it is lent, allocates nothing, and needs memcpy and memset of C's
+ *     library alone.
  *   - It is compiled for x86-64 Linux, with the calling convention of that system.
  *   - The stack at the call has to suffice: the table behind the numbers says how much each call takes.
  *

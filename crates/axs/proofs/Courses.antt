@@ -152,56 +152,67 @@ module _ (n : ℕ) (b r : List ℕ) (l : n ≤ length b) where
       let d : drop 5 (take n b) ≡ [] = let m : length (take n b) ≤ 5 = omega (arith, long) in drop-of-length-le (take n b) m in
       rw (f ∙ begin-any r m) (simp (tests, e, d, run-none))
 
--- ---- a read that was lent the bytes of the buffer b from n up to m, and answered z
+-- ---- what a read answered
 
-module _ (at n m : ℕ) (b r : List ℕ) (z : ℤ) (em : m ≡ boundAt at) (lm : m ≤ length b) (ln : n ≤ m) where
-  lent-long : length (take (m - n) (drop n b)) ≡ boundAt at - n
-  lent-long = length-take-le (m - n) (drop n b) (rw length-drop (omega arith)) ∙ ap (λ (x : ℕ). x - n) em
+pub read-fails : (at n : ℕ) (b r : List ℕ) (z : ℤ) → ltZ z (pos 0) ≡ true
+    → courseAt (Turn·Over Failed) b r ≡ afterRead (standAt at n b r) (readBy z (boundAt at - n) (drop n b))
+unfolding courseAt standAt afterRead readBy
+read-fails at n b r (pos k) e = let l = ltb-true k 0 e in absurd (omega arith)
+read-fails at n b r (negsuc k) e = refl
 
-  pub read-fails : ltZ z (pos 0) ≡ true → courseAt (Turn·Over Failed) b r ≡ afterRead (standAt at n b r) (readBy z (boundAt at - n) (drop n b))
-  unfolding courseAt standAt afterRead readBy
-  read-fails h = by z h
-    where
-      by : (x : ℤ) → ltZ x (pos 0) ≡ true → courseAt (Turn·Over Failed) b r ≡ afterRead (standAt at n b r) (readBy x (boundAt at - n) (drop n b))
-      by (pos k) e = let l = ltb-true k 0 e in absurd (omega arith)
-      by (negsuc k) e = refl
+clamped-most : (z : ℤ) (n : ℕ) → clamped z n ≤ n
+clamped-most (pos k) n = omega arith
+clamped-most (negsuc k) n = omega arith
 
-  -- k bytes came
-  module _ (k : ℕ) (good : ltZ z (pos 0) ≡ false) (ek : k ≡ clamped z (length (take (m - n) (drop n b)))) where
-    clamped-most : (x : ℤ) (y : ℕ) → clamped x y ≤ y
-    clamped-most (pos j) y = omega arith
-    clamped-most (negsuc j) y = omega arith
+came-by : (z : ℤ) (k n : ℕ) (t : List ℕ) → ltZ z (pos 0) ≡ false → k ≡ clamped z n → readBy z n t ≡ Gave (take k t)
+unfolding readBy
+came-by (pos j) k n t e f = rw f refl
+came-by (negsuc j) k n t e f = absurd (subst T e tt)
 
-    pub came-most : n + k ≤ m
-    came-most = omega (arith, ek, lent-long, em, clamped-most z (length (take (m - n) (drop n b))))
+-- a read that was lent the bytes of the buffer b from n up to m, where the bound is, answered z, and k bytes came
+pub record Came (at n : ℕ) (b : List ℕ) (z : ℤ) (k : ℕ) : Type 0 where
+  pub m : ℕ
+  pub bound : m ≡ boundAt at
+  pub within : m ≤ length b
+  pub held : n ≤ m
+  pub good : ltZ z (pos 0) ≡ false
+  pub count : k ≡ clamped z (length (take (m - n) (drop n b)))
 
-    gave : readBy z (boundAt at - n) (drop n b) ≡ Gave (take k (drop n b))
-    unfolding readBy
-    gave = by z good (ek ∙ ap (clamped z) lent-long)
-      where
-        by : (x : ℤ) → ltZ x (pos 0) ≡ false → k ≡ clamped x (boundAt at - n) → readBy x (boundAt at - n) (drop n b) ≡ Gave (take k (drop n b))
-        by (pos j) e f = rw f refl
-        by (negsuc j) e f = absurd (subst T e tt)
+module _ {at n k : ℕ} {b : List ℕ} {z : ℤ} (r : List ℕ) (c : Came at n b z k) where
+  lent-long : length (take (c .m - n) (drop n b)) ≡ boundAt at - n
+  lent-long = length-take-le (c .m - n) (drop n b) (rw length-drop (omega (arith, c .within))) ∙ ap (λ (x : ℕ). x - n) (c .bound)
 
-    pub read-ends : k ≡ 0 → (e : End) → e ≡ endAt at n → courseAt (Turn·Over e) b r ≡ afterRead (standAt at n b r) (readBy z (boundAt at - n) (drop n b))
-    unfolding courseAt standAt afterRead
-    read-ends h e f = rw (gave, h) (rw (f, length-take-le n b (let l : n ≤ length b = omega arith in l)) refl)
+  took : k ≡ clamped z (boundAt at - n)
+  took = c .count ∙ ap (clamped z) lent-long
 
-    module _ (h : k ≡ 0 → ⊥) where
-      some-came : (p : List ℕ) → (length p ≡ 0 → ⊥) → afterRead (standAt at n b r) (Gave p) ≡ onBytes (standAt at n b r) p
-      unfolding afterRead
-      some-came [] f = absurd (f refl)
-      some-came (x ∷ p) f = refl
+  pub came-most : n + k ≤ boundAt at
+  came-most = omega (arith, took, c .bound, c .held, clamped-most z (boundAt at - n))
 
-      came : afterRead (standAt at n b r) (readBy z (boundAt at - n) (drop n b)) ≡ onBytes (standAt at n b r) (take k (drop n b))
-      came =
-          let l : length (take k (drop n b)) ≡ k = length-take-le k (drop n b) (rw length-drop (omega (arith, came-most))) in
-          rw gave (some-came (take k (drop n b)) (λ q. h (sym l ∙ q)))
+  gave : readBy z (boundAt at - n) (drop n b) ≡ Gave (take k (drop n b))
+  gave = came-by z k (boundAt at - n) (drop n b) (c .good) took
 
-      pub read-head : at ≡ 0 → (c : Course) → c ≡ onHead (take (n + k) b) r → c ≡ afterRead (standAt at n b r) (readBy z (boundAt at - n) (drop n b))
-      unfolding standAt onBytes
-      read-head f c e = rw (came, eq-eqb at 0 f, ← take-add n k b) e
+  pub read-ends : k ≡ 0 → (e : End) → e ≡ endAt at n → courseAt (Turn·Over e) b r ≡ afterRead (standAt at n b r) (readBy z (boundAt at - n) (drop n b))
+  unfolding courseAt standAt afterRead
+  read-ends h e f =
+      let l : n ≤ length b = omega (arith, c .held, c .within) in
+      rw (gave, h) (rw (f, length-take-le n b l) refl)
 
-      pub read-records : (at ≡ 0 → ⊥) → (c : Course) → c ≡ onRecords at (take (n + k) b) r → c ≡ afterRead (standAt at n b r) (readBy z (boundAt at - n) (drop n b))
-      unfolding standAt onBytes
-      read-records f c e = rw (came, ne-eqb at 0 f, ← take-add n k b) e
+  -- some came
+  module _ (h : k ≡ 0 → ⊥) where
+    not-end : (p : List ℕ) → (length p ≡ 0 → ⊥) → afterRead (standAt at n b r) (Gave p) ≡ onBytes (standAt at n b r) p
+    unfolding afterRead
+    not-end [] f = absurd (f refl)
+    not-end (x ∷ p) f = refl
+
+    came-on : afterRead (standAt at n b r) (readBy z (boundAt at - n) (drop n b)) ≡ onBytes (standAt at n b r) (take k (drop n b))
+    came-on =
+        let l : length (take k (drop n b)) ≡ k = length-take-le k (drop n b) (rw length-drop (omega (arith, came-most, c .bound, c .within))) in
+        rw gave (not-end (take k (drop n b)) (λ q. h (sym l ∙ q)))
+
+    pub read-head : at ≡ 0 → (d : Course) → d ≡ onHead (take (n + k) b) r → d ≡ afterRead (standAt at n b r) (readBy z (boundAt at - n) (drop n b))
+    unfolding standAt onBytes
+    read-head f d e = rw (came-on, eq-eqb at 0 f, ← take-add n k b) e
+
+    pub read-records : (at ≡ 0 → ⊥) → (d : Course) → d ≡ onRecords at (take (n + k) b) r → d ≡ afterRead (standAt at n b r) (readBy z (boundAt at - n) (drop n b))
+    unfolding standAt onBytes
+    read-records f d e = rw (came-on, ne-eqb at 0 f, ← take-add n k b) e

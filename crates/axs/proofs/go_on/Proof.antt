@@ -9,26 +9,28 @@ use lib.ListN.{length}
 use mir.Syntax.{w64}
 use mir.Val.{toZ, ofZ}
 use mir.Facts.{toZ-ofZ}
-use Rattle.axs.proofs.Courses.{bound-head, bound-most, over-onward, onward-from, came-most, read-fails, read-ends, read-head, read-records}
+use Rattle.axs.proofs.Courses.{bound-head, bound-most, over-onward, onward-from, Came, came-most, read-fails, read-ends, read-head, read-records}
 use Rattle.axs.proofs.go_on.Statement.{statement}
 use Rattle.axs.proofs.go_on.Tie as tie
 
 bound-within : (c : tie.After-bound) → c .bound .result ≤ length (now (c .before .before .before .before .args .buffer))
 bound-within c = let a = c .before .before .before .before .args in let m = bound-most (a .at) in omega (arith, c .bound .ensures)
 
-came-within : (c : tie.After-count) → c .before .before .before .before .before .before .before .args .held + c .count .result ≤ c .before .before .before .bound .result
-came-within c =
-    let a = c .before .before .before .before .before .before .before .args in
-    let k = c .before .before .before in
-    came-most (a .at) (a .held) (k .bound .result) (now (a .buffer)) (now (a .room)) (toZ w64 (ofZ w64 (a .got))) (k .bound .ensures) (bound-within k) (omega (arith, k .bound .ensures))
-    (c .count .result) (k .before .if1 .left) (c .count .ensures .1)
+-- so many bytes came
+came : (q : tie.After-count)
+    → Came (q .before .before .before .before .before .before .before .args .at) (q .before .before .before .before .before .before .before .args .held) (now (q .before .before .before .before .before .before .before .args .buffer)) (toZ w64 (ofZ w64 (q .before .before .before .before .before .before .before .args .got))) (q .count .result)
+came q =
+    let k = q .before .before .before in
+    record { m = k .bound .result; bound = k .bound .ensures; within = bound-within k; held = omega (arith, k .bound .ensures); good = k .before .if1 .left; count = q .count .ensures .1 }
+
+came-within : (q : tie.After-count) → q .before .before .before .before .before .before .before .args .held + q .count .result ≤ boundAt (q .before .before .before .before .before .before .before .args .at)
+came-within q = came-most (now (q .before .before .before .before .before .before .before .args .room)) (came q)
 
 returns : tie.Need-returns
 returns c =
     let s = c .before .before .before in
     let a = s .args in
-    let z : boundAt (a .at) ≤ length (now (a .buffer)) = omega (arith, bound-most (a .at)) in
-    (rw (← toZ-ofZ (s .fits .got)) (read-fails (a .at) (a .held) (boundAt (a .at)) (now (a .buffer)) (now (a .room)) (toZ w64 (ofZ w64 (a .got))) refl z (omega arith) (c .if1 .taken)), over-onward _ _ _)
+    (rw (← toZ-ofZ (s .fits .got)) (read-fails (a .at) (a .held) (now (a .buffer)) (now (a .room)) (toZ w64 (ofZ w64 (a .got))) (c .if1 .taken)), over-onward _ _ _)
 
 bound-requires : tie.Need-bound-requires
 bound-requires c κs = search needs
@@ -54,21 +56,14 @@ same-length c = search needs
 returns-2 : tie.Need-returns-2
 returns-2 c =
     let q = c .before .before in
-    let k = q .before .before .before in
     let s = q .before .before .before .before .before .before .before in
-    let a = s .args in (
-      rw (← toZ-ofZ (s .fits .got)) (read-ends (a .at) (a .held) (k .bound .result) (now (a .buffer)) (now (a .room)) (toZ w64 (ofZ w64 (a .got))) (k .bound .ensures) (bound-within k) (omega (arith, k .bound .ensures)) (q .count .result) (k .before .if1 .left) (q .count .ensures .1)
-          (c .before .if2 .taken) (c .end-of .result) (c .end-of .ensures)),
-      over-onward _ _ _,
-    )
+    (rw (← toZ-ofZ (s .fits .got)) (read-ends (now (s .args .room)) (came q) (c .before .if2 .taken) (c .end-of .result) (c .end-of .ensures)), over-onward _ _ _)
 
 add-head-in : tie.Need-add-head-in
 add-head-in c = search needs
 
 head-in-requires : tie.Need-head-in-requires
-head-in-requires c κs =
-    let w = came-within (c .before .before .before .before) in
-    (omega (arith, w, c .before .before .before .before .before .before .before .bound .ensures, bound-head _ (c .before .before .if3 .taken)), search needs)
+head-in-requires c κs = (omega (arith, came-within (c .before .before .before .before), bound-head _ (c .before .before .if3 .taken)), search needs)
 
 same-length-2 : tie.Need-same-length-2
 same-length-2 c = search needs
@@ -79,14 +74,13 @@ same-length-3 c = search needs
 returns-3 : tie.Need-returns-3
 returns-3 c =
     let q = c .before .before .before .before .before .before .before in
-    let k = q .before .before .before in
     let s = q .before .before .before .before .before .before .before in
     let a = s .args in
     let z = c .before .before .before .before .before .if3 .taken in
     let e = c .before .before .head-in .ensures in (
-      rw (← toZ-ofZ (s .fits .got)) (read-head (a .at) (a .held) (k .bound .result) (now (a .buffer)) (now (a .room)) (toZ w64 (ofZ w64 (a .got))) (k .bound .ensures) (bound-within k) (omega (arith, k .bound .ensures)) (q .count .result) (k .before .if1 .left) (q .count .ensures .1)
-          (c .before .before .before .before .before .before .if2 .left) z _ (e .0)),
-      onward-from (a .at) _ (a .held + q .count .result) _ (omega arith) (subst (λ (n : ℕ). Onward n (a .held + q .count .result) (c .before .before .head-in .result)) (sym z) (e .1)),
+      rw (← toZ-ofZ (s .fits .got)) (read-head (now (a .room)) (came q) (c .before .before .before .before .before .before .if2 .left) z _ (e .0)),
+      onward-from (a .at) _ (a .held + q .count .result) _ (omega arith)
+          (subst (λ (n : ℕ). Onward n (a .held + q .count .result) (c .before .before .head-in .result)) (sym z) (e .1)),
     )
 
 add-records-in : tie.Need-add-records-in
@@ -95,7 +89,7 @@ add-records-in c = search needs
 records-in-requires : tie.Need-records-in-requires
 records-in-requires c κs =
     let w = came-within (c .before .before .before .before) in
-    let v = bound-within (c .before .before .before .before .before .before .before) in
+    let m = bound-most (c .before .before .before .before .before .before .before .before .before .before .before .args .at) in
     (omega (arith, c .before .before .if3 .left), search needs)
 
 same-length-4 : tie.Need-same-length-4
@@ -107,14 +101,12 @@ same-length-5 c = search needs
 returns-4 : tie.Need-returns-4
 returns-4 c =
     let q = c .before .before .before .before .before .before .before .before .before in
-    let k = q .before .before .before in
     let s = q .before .before .before .before .before .before .before in
     let a = s .args in
     let e = c .before .before .before .before .records-in .ensures in
     let n = c .before .before .before .before .before .before .before .before .if2 .left in
     let some : a .held + 1 ≤ a .held + q .count .result = omega (arith, n) in (
-      rw (← toZ-ofZ (s .fits .got)) (read-records (a .at) (a .held) (k .bound .result) (now (a .buffer)) (now (a .room)) (toZ w64 (ofZ w64 (a .got))) (k .bound .ensures) (bound-within k) (omega (arith, k .bound .ensures)) (q .count .result) (k .before .if1 .left) (q .count .ensures .1)
-          (c .before .before .before .before .before .before .before .before .if2 .left) (c .before .before .before .before .before .before .before .if3 .left) _ (e .0)),
+      rw (← toZ-ofZ (s .fits .got)) (read-records (now (a .room)) (came q) n (c .before .before .before .before .before .before .before .if3 .left) _ (e .0)),
       onward-from (a .at) _ (a .held + q .count .result) _ some (e .1),
     )
 
