@@ -2,7 +2,7 @@
 use borrow.Author.Needs.{needs}
 use Rattle.axs.specs.Inner.Buffered.{boundAt, Onward}
 use native.Mathlib.Omega.{arith}
-use mathlib.Core.Path.{refl, sym, subst}
+use mathlib.Core.Path.{sym, subst}
 use Prim.Native.Nat.{ℕ, _+_, _≤_}
 use denote.Ref.{now}
 use lib.ListN.{length}
@@ -18,10 +18,18 @@ bound-within c = let a = c .before .before .before .before .args in let m = boun
 
 -- so many bytes came
 came : (q : tie.After-count)
-    → Came (q .before .before .before .before .before .before .before .args .at) (q .before .before .before .before .before .before .before .args .held) (now (q .before .before .before .before .before .before .before .args .buffer)) (toZ w64 (ofZ w64 (q .before .before .before .before .before .before .before .args .got))) (q .count .result)
+    → Came (q .before .before .before .before .before .before .before .args .at) (q .before .before .before .before .before .before .before .args .held)
+    (now (q .before .before .before .before .before .before .before .args .buffer)) (toZ w64 (ofZ w64 (q .before .before .before .before .before .before .before .args .got))) (q .count .result)
 came q =
     let k = q .before .before .before in
-    record { m = k .bound .result; bound = k .bound .ensures; within = bound-within k; held = omega (arith, k .bound .ensures); good = k .before .if1 .left; count = q .count .ensures .1 }
+    record {
+      m = k .bound .result;
+      bound = k .bound .ensures;
+      within = bound-within k;
+      held = omega (arith, k .bound .ensures);
+      good = k .before .if1 .left;
+      count = q .count .ensures .1;
+    }
 
 came-within : (q : tie.After-count) → q .before .before .before .before .before .before .before .args .held + q .count .result ≤ boundAt (q .before .before .before .before .before .before .before .args .at)
 came-within q = came-most (now (q .before .before .before .before .before .before .before .args .room)) (came q)
