@@ -14,7 +14,7 @@ use condition::Truth;
 use list::Look;
 
 // What an entry leaves: the bits still to decide; or a bit is denied.
-#[derive(Drop)]
+#[derive(Clone, Copy)]
 pub enum Turn {
     On(u32),
     Denied,

@@ -1,4 +1,5 @@
 // Who may open an object, and a list's entries stepped through where they lie.
+#![tactic(auto)]
 ghost use Rattle.std.specs.Prelude.{◌≡◌, []};
 ghost use Rattle.access.specs.Open.{may_open_of, question_by};
 ghost use Rattle.access.specs.Walk.{pointed_of};
@@ -18,7 +19,7 @@ pub use steps::{Found, next_at, step_at, walked};
 pub use walkers::{Walker, first, make, past, step};
 
 // May this person open this object: yes, no, or the number of a refusal and the offset of its entry.
-#[derive(Drop)]
+#[derive(Clone, Copy)]
 pub enum Access {
     Yes,
     No,
@@ -26,7 +27,7 @@ pub enum Access {
 }
 
 // What a walk is at: an entry or the end; or the list's refusal.
-#[derive(Drop)]
+#[derive(Clone, Copy)]
 pub enum Pointed {
     Done(Found),
     Refused { number: u8, at: u16 },

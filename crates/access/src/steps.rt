@@ -5,7 +5,7 @@ ghost use Rattle.access.specs.Walk.{walked_of, step_at, next_at};
 use list::{Checked, Entry, Reading};
 
 // What is found at a place: an entry, with where it lies and where the next one begins; or the end.
-#[derive(Drop)]
+#[derive(Clone, Copy)]
 pub enum Found {
     At {
         at: usize,

@@ -5,7 +5,7 @@ ghost use Rattle.access.specs.Walk.{walked_of, step_at, next_at};
 use crate::steps::{Found, next_at, step_at, walked};
 
 // The list up to where its entries end, and where the next entry begins.
-#[derive(Drop)]
+#[derive(Clone, Copy)]
 pub struct Walker<'a> {
     pub list: &'a [u8],
     pub at: usize,

@@ -2,6 +2,7 @@
 // Records are played as they come in, through a buffer that holds the longest one, so a script may have any length. What is made of a
 // read, and what is said in the end, are promised by an equation each; `libc::read` and `libc::write` are called in one place each, and
 // what no contract can say is that these places are reached: `read_all`, `write_all`, `say` and `main` are to be read.
+#![tactic(auto)]
 ghost use Rattle.std.specs.Prelude.{◌+◌, ◌-◌, ◌≤◌, ◌<◌, [], ◌≡◌, length, take, drop};
 ghost use Rattle.axs.specs.declared.End.TheVariants.{Failed as End-as-Failed};
 ghost use Rattle.axs.specs.Reads.{end_at, on_head, on_records, after_read, Reached};
@@ -21,7 +22,7 @@ const TEXT: usize = 4096;
 const MOST: u64 = 9223372036854775808;
 
 // How a run ended: by a whole record, by a bad or cut one, or because the input could not be read.
-#[derive(Drop)]
+#[derive(Clone, Copy)]
 enum End {
     Whole,
     Bad { at: u64 },
@@ -30,7 +31,7 @@ enum End {
 
 // What a read leads to: so many bytes are held, of which the first stands at this offset, or the run is over. Before the head is whole
 // the offset is 0.
-#[derive(Drop)]
+#[derive(Clone, Copy)]
 enum Turn {
     On { at: u64, held: usize },
     Over { end: End },
@@ -146,7 +147,7 @@ fn read_all(room: &mut [u8], buffer: &mut [u8]) -> End
 }
 
 // What is said: so many bytes of a text, and the descriptor that they are written to.
-#[derive(Drop)]
+#[derive(Clone, Copy)]
 struct Said {
     to: i32,
     length: usize,

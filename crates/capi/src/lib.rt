@@ -1,4 +1,5 @@
 // The C library (include/pipeteasel.h): thin calls, one for each public call of the layers, and nothing else.
+#![tactic(auto)]
 ghost use Rattle.std.specs.Prelude.{◌≡◌, [], length};
 ghost use Rattle.octets.specs.Bytes.{has as Given·has};
 ghost use Rattle.condition.specs.Meaning.{evaluate_of};

@@ -12,14 +12,14 @@ use crate::tokens::{LITERAL, NAME, is_comparison};
 use crate::truths::{FALSE, TRUE, UNKNOWN, both, either, is_truth, opposite};
 
 // What stands at a place of the stack; `key` is that of a number.
-#[derive(Drop)]
+#[derive(Clone, Copy)]
 pub struct Cell {
     pub mark: u8,
     pub key: u64,
 }
 
 // What a token does: so many places are taken off, and a cell is laid on top. Three places are more than any token takes: it is refused.
-#[derive(Drop)]
+#[derive(Clone, Copy)]
 pub struct Effect {
     pub pops: usize,
     pub cell: Cell,

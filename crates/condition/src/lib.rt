@@ -1,4 +1,6 @@
 // Conditional expressions in their stored form: which are acceptable, and what they say under a table of names.
+#![tactic(auto)]
+
 ghost use Rattle.std.specs.Prelude.{◌≡◌};
 ghost use Rattle.condition.specs.Kind.{stored_end, stored_alone};
 ghost use Rattle.condition.specs.Table.{table_ok};
@@ -15,7 +17,7 @@ use tables::well_made;
 pub use truths::Truth;
 
 // What an expression says under a table, or the number of a refusal.
-#[derive(Drop)]
+#[derive(Clone, Copy)]
 pub enum Evaluated {
     Done(Truth),
     Refused(u8),

@@ -11,7 +11,7 @@ use octets::byte_in;
 const MOST_TOKENS: u32 = 64;
 
 // Where the tokens end and what they say; 0 and unknown where they aren't acceptable.
-#[derive(Drop)]
+#[derive(Clone, Copy)]
 pub struct Ran {
     pub end: usize,
     pub truth: Truth,

@@ -10,7 +10,7 @@ use octets::{half_in, same_bytes, word_in};
 const MOST_NAMES: u32 = 32;
 
 // What is found of a name: its number's key, or nothing.
-#[derive(Drop)]
+#[derive(Clone, Copy)]
 pub enum Found {
     Missing,
     Known(u64),

@@ -3,7 +3,7 @@ ghost use Rattle.std.specs.Prelude.{◌≡◌, true};
 ghost use Rattle.condition.specs.Meaning.{and_of, or_of, not_of};
 ghost use Rattle.condition.specs.Inner.Cells.{mark_of, mark_truth, truth_mark};
 
-#[derive(Drop)]
+#[derive(Clone, Copy)]
 pub enum Truth {
     False,
     True,

@@ -10,7 +10,7 @@ use crate::Settings;
 use crate::copies::has;
 
 // Which lists give entries: the creator's own ones, the parent's, the default list's; or no list at all.
-#[derive(Drop)]
+#[derive(Clone, Copy)]
 pub struct Plan {
     pub own: bool,
     pub parent: bool,

@@ -10,7 +10,7 @@ use crate::Mapping;
 use list::Look;
 
 // A pass over the entries of a list: the parent's first part, its second, the creator's own entries, all of the default list.
-#[derive(Drop)]
+#[derive(Clone, Copy)]
 pub enum Pass {
     First,
     Second,
@@ -19,7 +19,7 @@ pub enum Pass {
 }
 
 // Which list entries come from: the creator's own, the parent's, the default list.
-#[derive(Drop)]
+#[derive(Clone, Copy)]
 pub enum Origin {
     Own,
     Parent,
@@ -27,7 +27,7 @@ pub enum Origin {
 }
 
 // What says how an entry is copied, but for the object types and the identities; `count` is how many object types there are.
-#[derive(Drop)]
+#[derive(Clone, Copy)]
 pub struct Terms {
     pub rule: u32,
     pub container: bool,
@@ -105,7 +105,7 @@ fn takes_second(container: bool, flags: u8) -> bool
 }
 
 // Whether a pass takes an entry, and the flags of its copy.
-#[derive(Drop)]
+#[derive(Clone, Copy)]
 pub struct Picked {
     pub taken: bool,
     pub flags: u8,

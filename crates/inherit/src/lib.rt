@@ -1,4 +1,5 @@
 // The computation of a new object's list.
+#![tactic(auto)]
 ghost use Rattle.std.specs.Prelude.{◌≡◌, cond, length};
 ghost use Rattle.list.specs.Entry.{access};
 ghost use Rattle.inherit.specs.Branch.{result_of};
@@ -20,7 +21,7 @@ mod tests;
 mod whole;
 
 // Yes or no: whether each list is present, and the settings.
-#[derive(Drop)]
+#[derive(Clone, Copy)]
 pub struct Settings {
     pub parent: bool,
     pub creator: bool,
@@ -32,7 +33,7 @@ pub struct Settings {
 }
 
 // What the generic bits of a mask stand for.
-#[derive(Drop)]
+#[derive(Clone, Copy)]
 pub struct Mapping {
     pub read: u32,
     pub write: u32,
@@ -41,7 +42,7 @@ pub struct Mapping {
 }
 
 // The answer: a list on the front of the result, no list, or a refusal.
-#[derive(Drop)]
+#[derive(Clone, Copy)]
 pub enum Computed {
     Present {
         length: u16,

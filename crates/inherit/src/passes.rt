@@ -13,7 +13,7 @@ use crate::last::{in_place, last_mask, put_entry, put_head};
 use list::Look;
 
 // How many bytes and entries, and whether an object entry is among them.
-#[derive(Drop)]
+#[derive(Clone, Copy)]
 pub struct Measure {
     pub bytes: usize,
     pub count: usize,
@@ -21,14 +21,14 @@ pub struct Measure {
 }
 
 // One entry measured: its own size, and what it gives.
-#[derive(Drop)]
+#[derive(Clone, Copy)]
 pub struct Measured {
     pub size: usize,
     pub gives: Measure,
 }
 
 // One entry written: its own size, and how many bytes it gave.
-#[derive(Drop)]
+#[derive(Clone, Copy)]
 pub struct Written {
     pub size: usize,
     pub bytes: usize,

@@ -8,7 +8,7 @@ ghost use Rattle.inherit.specs.Inner.Source.{source_of};
 use list::Reading;
 
 // A list that may be absent: the number and offset of its refusal, or 0 and how its entries are read.
-#[derive(Drop)]
+#[derive(Clone, Copy)]
 pub struct Source {
     pub number: u8,
     pub offset: u16,

@@ -13,13 +13,13 @@ use crate::copies::{Origin, Pass, Terms};
 use crate::passes::{Measure, both, measure_pass, write_pass};
 
 // How many entries of a list are gone over, and its revision.
-#[derive(Drop)]
+#[derive(Clone, Copy)]
 pub struct Part {
     pub rev: u8,
     pub count: usize,
 }
 
-#[derive(Drop)]
+#[derive(Clone, Copy)]
 pub struct Parts {
     pub own: Part,
     pub parent: Part,

@@ -10,7 +10,7 @@ use crate::identities::{sid_at, sid_len_in};
 use octets::{half_in, word_in};
 
 // The fields of a good entry; `sid` is where its SID begins.
-#[derive(Drop)]
+#[derive(Clone, Copy)]
 pub struct Entry {
     pub kind: u8,
     pub flags: u8,
@@ -22,7 +22,7 @@ pub struct Entry {
 }
 
 // A good entry's fields, or the number of its refusal.
-#[derive(Drop)]
+#[derive(Clone, Copy)]
 pub enum Checked {
     Good(Entry),
     Bad(u8),

@@ -6,14 +6,14 @@ ghost use Rattle.list.specs.Identity.{length_of_sid, whole_sid, is_sid, placehol
 use octets::{byte_in, put, same_bytes};
 
 // An identity: its bytes, zeros up to 68, and how many bytes it has.
-#[derive(Drop)]
+#[derive(Clone, Copy)]
 pub struct Sid {
     pub bytes: [u8; 68],
     pub len: usize,
 }
 
 // What making an identity from bytes gives: refused, it holds nothing.
-#[derive(Drop)]
+#[derive(Clone, Copy)]
 pub struct Made {
     pub ok: bool,
     pub sid: Sid,

@@ -1,4 +1,5 @@
 // Reads access lists: fields, identities, entries, whole lists and the index of their entries.
+#![tactic(auto)]
 mod entries;
 mod identities;
 mod lists;

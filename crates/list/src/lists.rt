@@ -9,7 +9,7 @@ use crate::entries::{Checked, entry_of, quick_size};
 use octets::half_in;
 
 // What reading a list finds: its length, its count and where its entries end, or a refusal's number and offset.
-#[derive(Drop)]
+#[derive(Clone, Copy)]
 pub enum Reading {
     Done { length: u16, count: u16, end: u16 },
     Refused { number: u8, at: u16 },

@@ -8,7 +8,7 @@ use crate::identities::placeholder_of;
 use octets::{byte_in, half_in, word_in};
 
 // An entry's fields as they lie there; `sid` is where its SID begins.
-#[derive(Drop)]
+#[derive(Clone, Copy)]
 pub struct Look {
     pub kind: u8,
     pub flags: u8,

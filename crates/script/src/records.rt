@@ -10,7 +10,7 @@ use tree::Answer;
 
 // A record at the front of a slice: some of its bytes are missing, its form is bad, or it is whole: how many bytes it has, and what it
 // asks by its number (RULES 6.2: 1 add, 2 set list, 3 mark, 4 owner and group, 5 undo).
-#[derive(Drop)]
+#[derive(Clone, Copy)]
 pub enum Found {
     Cut,
     Bad,

@@ -9,7 +9,7 @@ use crate::records::{Found, carry_out, step};
 use octets::part_of;
 
 // How many bytes of a slice were whole records, and whether a bad one comes next.
-#[derive(Drop)]
+#[derive(Clone, Copy)]
 pub struct Run {
     pub used: usize,
     pub bad: bool,

@@ -1,4 +1,5 @@
 // What the program of stored cases reads and prints with: bytes in, numbers and hashes out.
+#![tactic(auto)]
 ghost use Rattle.std.specs.Prelude.{◌<◌};
 
 use libc::{STDIN_FILENO, STDOUT_FILENO};

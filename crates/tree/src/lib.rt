@@ -1,4 +1,5 @@
 // A tree of objects with undo, kept as bytes in a lent room (docs/ROOM.md).
+#![tactic(auto)]
 ghost use Rattle.std.specs.Prelude.{◌≡◌, true, false, ◌≤◌, length};
 ghost use Rattle.list.specs.List.{lent};
 ghost use Rattle.octets.specs.Bytes.{front};
@@ -30,7 +31,7 @@ mod work;
 mod writes;
 
 // What a call answers: done, or a refusal.
-#[derive(Drop)]
+#[derive(Clone, Copy)]
 pub enum Answer {
     Done {
         length: u16,

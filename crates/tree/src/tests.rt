@@ -13,7 +13,7 @@ use crate::places::LONGEST_LIST;
 use list::Reading;
 
 // A refusal of a list that is given: its number, 0 for none, and the offset of its entry.
-#[derive(Drop)]
+#[derive(Clone, Copy)]
 pub(crate) struct Fault {
     pub(crate) number: u8,
     pub(crate) offset: u16,

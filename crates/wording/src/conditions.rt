@@ -11,7 +11,7 @@ use crate::tallies::Tally;
 use crate::tokens::{emit_name, emit_number, emit_op, join};
 
 // Where the walk has come, with its tally; or where the text goes wrong.
-#[derive(Drop)]
+#[derive(Clone, Copy)]
 pub enum Walked {
     At(usize, Tally),
     Bad(usize),

@@ -1,4 +1,5 @@
 // Conditions typed as text, translated to the stored form of conditional expressions.
+#![tactic(auto)]
 ghost use Rattle.std.specs.Prelude.{◌≡◌, ◌≤◌, length};
 ghost use Rattle.wording.specs.Translation.{translation_of, out_after};
 ghost use Rattle.wording.specs.Inner.Walk.{tally0, decide_at, decide_of, Wrote};
@@ -22,7 +23,7 @@ const MOST_DEEP: usize = 16;
 const MOST_OPEN: usize = 12;
 
 // The stored form's length and the number of its tokens, or a refusal's number and the offset in the text.
-#[derive(Drop)]
+#[derive(Clone, Copy)]
 pub enum Translated {
     Done(usize, usize),
     Refused(u8, usize),

@@ -7,7 +7,7 @@ ghost use Rattle.wording.specs.Inner.Leaf.{class_of, NameEnd, digits_found, foun
 use crate::bytes::{byte_is, class_at};
 
 // An operand found: a name and where it ends; a number, whether a minus stands before it, and where it ends; or where it goes wrong.
-#[derive(Drop)]
+#[derive(Clone, Copy)]
 pub enum Found {
     Name(usize),
     Number(bool, u64, usize),

@@ -6,7 +6,7 @@ ghost use Rattle.wording.specs.Inner.Leaf.{sign_of};
 use crate::bytes::byte_is;
 
 // A comparison's code and where it ends, or where it goes wrong.
-#[derive(Drop)]
+#[derive(Clone, Copy)]
 pub enum Sign {
     Is(u8, usize),
     Not(usize),

@@ -3,7 +3,7 @@ ghost use Rattle.std.specs.Prelude.{◌≡◌, ◌-◌, ◌<◌, max};
 ghost use Rattle.wording.specs.Inner.Walk.{up_by, note_b};
 
 // Tokens and bytes so far, how many values stand on the stack, and the most that have.
-#[derive(Drop)]
+#[derive(Clone, Copy)]
 pub struct Tally {
     pub tokens: usize,
     pub size: usize,
