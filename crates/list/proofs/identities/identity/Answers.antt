@@ -1,0 +1,16 @@
+-- Not exactly one SID, or one that is told by which placeholder it is. Assumes nothing.
+use borrow.Author.Rules.{rules}
+use mathlib.Core.Path.{sym, ◌∙◌}
+use borrow.Author.Tests.{not-true, not-false}
+use Rattle.list.specs.Identity.{identity_of}
+use Rattle.list.proofs.identities.identity.Goals as goal
+
+pub returns-then-not-is_sid : goal.returns-then-not-is_sid
+unfolding identity_of
+returns-then-not-is_sid c =
+    simp (sym c.is_sid.ensures ∙ c.if-not-is_sid.true)
+
+pub returns : goal.returns
+unfolding identity_of
+returns c =
+    simp (sym c.is_sid.ensures ∙ c.if-not-is_sid.false) c.placeholder_of.ensures

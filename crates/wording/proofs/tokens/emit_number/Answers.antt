@@ -1,0 +1,15 @@
+-- The bytes of the word that the number is. Assumes nothing.
+use borrow.Author.Rules.{rules}
+use mathlib.Core.List.{List}
+use mathlib.Core.Path.{ap, ◌∙◌}
+use Prim.Native.Nat.{ℕ}
+use Rattle.condition.specs.Token.{number, push}
+use Rattle.wording.specs.Stored.{token_bytes}
+use Rattle.wording.specs.Inner.Walk.{put_b}
+use Rattle.wording.proofs.tokens.emit_number.Goals as goal
+
+pub returns : goal.returns
+returns c =
+    let a = c.args in
+    let e = c.number_bytes-bytes.ensures ∙ ap (λ (m : ℕ). token_bytes (push (number m))) c.word_of.ensures in
+    (c.note.ensures, c.lay.ensures ∙ ap (λ (b : List ℕ). put_b b a.w a.out.now) e)
