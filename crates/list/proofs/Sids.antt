@@ -1,22 +1,20 @@
 -- Laws of identities.
-use mathlib.Core.Path.{◌≡◌, refl, sym, ap, ap₂, ◌∙◌}
-use mathlib.Core.Bool.{Bool, true, false, cond, ◌&&◌, and_assoc}
-use mathlib.Core.List.{List, [], ◌∷◌, ◌++◌}
+use mathlib.Core.Path.{◌≡◌, refl, sym, ap, ◌∙◌}
+use mathlib.Core.Bool.{Bool, true, false, cond, ◌&&◌}
+use mathlib.Core.List.{List, ◌++◌}
 use Prim.Native.Nat.{ℕ, ◌+◌, ◌*◌, ◌≤◌, ◌<◌}
 use native.Mathlib.Omega.{arith}
 use native.Mathlib.Decide.{ℕ_discrete}
-use lib.ListN.{length, take, drop, replicate, get_or, length-append, length-take, length-drop, take-append-drop, get_or-append}
-use lib.Seq.{take_at, drop-drop, length-take-le}
+use lib.ListN.{length, take, drop, replicate, get_or, length-append, length-take, take-append-drop, get_or-append}
+use lib.Seq.{take_at, length-take-le}
 use lib.Dec.{eqb, leb, ltb}
 use borrow.Author.Tests.{eq-eqb, ne_eqb, lt-ltb, le-leb, lt-leb, eqb-true, leb-true, ltb-true}
-use Rattle.octets.specs.Bytes.{Bytes, le, same_bytes}
 use Rattle.list.specs.Identity.{length_of_sid, whole_sid, is_sid, creator, placeholder_of, identity_of, bytes_of, made_of}
 use Rattle.list.specs.declared.identities.Made.{Made}
-use Rattle.octets.proofs.Tests.{both_true, false-or}
-use Rattle.octets.proofs.Same.{same_true, same-yes, same-no, same_length}
+use Rattle.octets.proofs.Tests.{both_true}
+use Rattle.octets.proofs.Same.{same-no, same_length}
 use Rattle.octets.proofs.Writes.{length_front}
 use Rattle.octets.proofs.Places.{split}
-use Rattle.octets.proofs.Little.{le-append, le_same, bytes_drop}
 
 -- a SID has 8 to 68 bytes
 pub record SidLength (n : ℕ) : Type 0 where

@@ -1,5 +1,5 @@
 -- One entry of a list (RULES 1.5, 1.6, 4.3), read off the bytes t that it begins; of what follows it in t only the length counts, in (a).
-use Rattle.std.specs.Prelude.{ℕ, ◌+◌, ◌-◌, ◌*◌, ◌/◌, ◌%◌, List, [], ◌∷◌, ◌++◌, Bool, true, false, cond, ◌&&◌, ◌||◌, length, get_or, take, drop, eqb, leb, ltb}
+use Rattle.std.specs.Prelude.{ℕ, ◌+◌, ◌-◌, ◌*◌, ◌/◌, ◌%◌, List, [], ◌∷◌, ◌++◌, Bool, true, cond, ◌&&◌, ◌||◌, length, get_or, take, drop, eqb, leb, ltb}
 use Rattle.octets.specs.Order.{need}
 use Rattle.octets.specs.Bytes.{le, spell}
 use Rattle.condition.specs.Kind.{stored_end, up_to_four}

@@ -1,5 +1,6 @@
 // Reads access lists: fields, identities, entries, whole lists and the index of their entries.
 #![tactic(auto)]
+
 mod entries;
 mod identities;
 mod lists;

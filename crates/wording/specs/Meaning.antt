@@ -1,5 +1,5 @@
 -- What a tree means under a table (RULES 12.5): said of the text's own names and numbers, not of what is stored.
-use Rattle.std.specs.Prelude.{ℕ, List, ◌∷◌, ℤ}
+use Rattle.std.specs.Prelude.{List, ◌∷◌, ℤ}
 use Rattle.std.proofs.Math.Option.{Option, none, some, map}
 use Rattle.condition.specs.declared.truths.Truth.{Truth}
 use Rattle.condition.specs.declared.truths.Truth.TheVariants.{Unknown}

@@ -1,5 +1,6 @@
 // Conditions typed as text, translated to the stored form of conditional expressions.
 #![tactic(auto)]
+
 ghost use Rattle.std.specs.Prelude.{◌≡◌, ◌≤◌, length};
 ghost use Rattle.wording.specs.Translation.{translation_of, out_after};
 ghost use Rattle.wording.specs.Inner.Walk.{tally0, decide_at, decide_of, Wrote};

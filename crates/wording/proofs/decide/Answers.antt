@@ -2,7 +2,6 @@
 use mathlib.Core.Path.{sym, ap, ◌∙◌}
 use Rattle.wording.specs.Inner.Walk.{decide_of}
 use Rattle.wording.specs.declared.conditions.Walked.{Walked}
-use borrow.Author.Rules.{rules}
 use Rattle.wording.proofs.decide.Goals as goal
 
 pub returns-in-At : goal.returns-in-At

@@ -6,7 +6,6 @@ use mathlib.Core.List.{List, ◌++◌}
 use mathlib.Core.Path.{sym, ap, subst, ◌∙◌}
 use Rattle.wording.specs.Inner.Walk.{Wrote}
 use Rattle.wording.proofs.Decides.{first_walk, nothing, too_long, done-room, after-refusal, after-done}
-use borrow.Author.Rules.{rules}
 use Rattle.wording.proofs.translate.Goals as goal
 
 pub returns-then-text-gt-MOST_TEXT : goal.returns-then-text-gt-MOST_TEXT
@@ -21,7 +20,7 @@ returns-in_default c =
     let s = a.text.now in
     let o = a.out.now in
     let ys = c.read_condition-walked.new.out in
-    let empty = c.read_condition-walked.auto.1.1.1.1.1.0 in
+    let empty = c.read_condition-walked.auto.out in
     let e = first_walk s o ys _ _ _ _ _ c.if-text-gt-MOST_TEXT.false empty c.start.ensures c.read_condition-walked.ensures c.decide-answer.ensures in
     let d = sym c.in_default.is ∙ e in
     (e, ap (λ (l : List ℕ). l ++ o) (nothing ys empty) ∙ after-refusal s o _ _ d)
@@ -32,7 +31,7 @@ write-requires c =
     let s = a.text.now in
     let o = a.out.now in
     let ys = c.read_condition-walked.new.out in
-    let empty = c.read_condition-walked.auto.1.1.1.1.1.0 in
+    let empty = c.read_condition-walked.auto.out in
     let e = first_walk s o ys _ _ _ _ _ c.if-text-gt-MOST_TEXT.false empty c.start.ensures c.read_condition-walked.ensures c.decide-answer.ensures in
     let d = sym c.in-Done.is ∙ e in
     (omega (arith, done-room s (length o) _ _ d, ap (λ (l : List ℕ). length (l ++ o)) (nothing ys empty)), c.if-text-gt-MOST_TEXT.false)
@@ -43,7 +42,7 @@ returns c =
     let s = a.text.now in
     let o = a.out.now in
     let ys = c.read_condition-walked.new.out in
-    let empty = c.read_condition-walked.auto.1.1.1.1.1.0 in
+    let empty = c.read_condition-walked.auto.out in
     let e = first_walk s o ys _ _ _ _ _ c.if-text-gt-MOST_TEXT.false empty c.start.ensures c.read_condition-walked.ensures c.decide-answer.ensures in
     let d = sym c.in-Done.is ∙ e in
     let q = c.write.new.out in

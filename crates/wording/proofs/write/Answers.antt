@@ -3,7 +3,6 @@ use native.Mathlib.Omega.{arith}
 use lib.ListN.{length-set}
 use mathlib.Core.Path.{◌∙◌}
 use Rattle.wording.proofs.Decides.{wrote, four-sets}
-use borrow.Author.Rules.{rules}
 use Rattle.wording.proofs.write.Goals as goal
 
 pub bounds-out-1 : goal.bounds-out-1
@@ -16,7 +15,7 @@ bounds-out-2 c =
 
 pub shape_of-out : goal.shape_of-out
 shape_of-out c =
-    c.read_condition.auto.1.1.1.1.1.0 ∙ simp length-set
+    c.read_condition.auto.out ∙ simp length-set
 
 pub returns : goal.returns
 returns c =

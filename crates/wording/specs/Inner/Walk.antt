@@ -1,5 +1,5 @@
 -- What the walk over a text leaves: its tally and the lent bytes, as folds over the tokens that it comes upon.
-use Rattle.std.specs.Prelude.{ℕ, ◌+◌, ◌-◌, ◌*◌, ◌≤◌, ◌<◌, max, ◌≡◌, Bool, true, false, cond, List, [], ◌∷◌, ◌++◌, eqb, leb, ltb, length, drop, get_or}
+use Rattle.std.specs.Prelude.{ℕ, ◌+◌, ◌-◌, ◌*◌, ◌<◌, max, ◌≡◌, Bool, true, false, cond, List, [], ◌∷◌, eqb, leb, ltb, length, drop, get_or}
 use Rattle.octets.specs.Bytes.{put_at}
 use Rattle.octets.specs.Order.{need}
 use Rattle.condition.specs.Token.{Token, push, compares, exists, ands, ors, nots}
@@ -11,7 +11,7 @@ use Rattle.wording.specs.declared.signs.Sign.TheVariants.{Is, Not}
 use Rattle.wording.specs.declared.Translated.{Translated}
 use Rattle.wording.specs.declared.Translated.TheVariants.{Done, Refused}
 use Rattle.wording.specs.Grammar.{Condition}
-use Rattle.wording.specs.Reader.{Res, good, bad, out, read_operand, read_comparison, Level, condition, term, factor, TreeOf, read, accepted, reading}
+use Rattle.wording.specs.Reader.{Res, good, bad, out, read_operand, read_comparison, Level, condition, term, factor, read, accepted, reading}
 use Rattle.wording.specs.Stored.{token_bytes}
 use Rattle.wording.specs.Inner.Tokens.{tokens_s, tokens_c, tokens_f, toks}
 

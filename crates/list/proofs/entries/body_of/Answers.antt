@@ -1,11 +1,9 @@
 -- Each return is a case of `entry_of` past (a) to (c), by the tests that led there. Assumes nothing.
-use borrow.Author.Rules.{rules}
 use native.Mathlib.Omega.{arith}
 use mathlib.Core.Path.{◌≡◌, refl, sym, ap, ◌∙◌}
 use mathlib.Core.List.{List}
 use Prim.Native.Nat.{ℕ, ◌+◌}
 use lib.ListN.{drop}
-use borrow.Author.Tests.{eq-eqb, ne_eqb}
 use Rattle.list.specs.Entry.{access, word_after, word_of, guids_of, sid_at, sid_len_of, sid_end}
 use Rattle.list.proofs.Sids.{sid-most}
 use Rattle.list.proofs.Cases.{bad-d, bad-e, bad-f, bad-g, bad-tail, no-fault, good}

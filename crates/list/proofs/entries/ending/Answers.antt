@@ -1,5 +1,4 @@
 -- By cases; a SID's length is at most 68. Assumes nothing.
-use borrow.Author.Rules.{rules}
 use native.Mathlib.Omega.{arith}
 use lib.ListN.{drop}
 use Rattle.list.proofs.Sids.{sid-most}

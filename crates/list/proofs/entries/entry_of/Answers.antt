@@ -1,9 +1,8 @@
 -- Each return is a case of `entry_of`, by the tests that led there. Assumes nothing.
-use borrow.Author.Rules.{rules}
 use native.Mathlib.Omega.{arith}
 use mathlib.Core.Path.{◌≡◌, sym, ◌∙◌}
 use mathlib.Core.Bool.{true}
-use borrow.Author.Tests.{not-true, not-false, le-leb, lt-leb}
+use borrow.Author.Tests.{le-leb, lt-leb}
 use Rattle.list.specs.Entry.{access, kind_ok, flags_ok, kind_of}
 use Rattle.list.proofs.Cases.{bad-a, bad-a2, bad-b, bad-c}
 use Rattle.list.proofs.entries.entry_of.Tie as tie

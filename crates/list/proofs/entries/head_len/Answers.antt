@@ -1,5 +1,4 @@
 -- An object type, or another. Assumes nothing.
-use borrow.Author.Rules.{rules}
 use mathlib.Core.Path.{sym, ◌∙◌}
 use Rattle.list.specs.Entry.{head_of}
 use Rattle.list.proofs.entries.head_len.Goals as goal

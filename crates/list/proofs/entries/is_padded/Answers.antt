@@ -1,5 +1,4 @@
 -- A multiple of four is the next one from the tokens on exactly where it is less than four past them. Assumes nothing.
-use borrow.Author.Rules.{rules}
 use mathlib.Core.Path.{sym}
 use Rattle.list.proofs.Padding.{not-four, next-four}
 use Rattle.list.proofs.entries.is_padded.Goals as goal

@@ -1,5 +1,4 @@
 -- Each return is a row of the table. Assumes nothing.
-use borrow.Author.Rules.{rules}
 use mathlib.Core.Path.{◌∙◌}
 use Rattle.octets.proofs.Tests.{tests}
 use Rattle.list.specs.Entry.{plain_of, conditional_kind}

@@ -1,7 +1,5 @@
 -- Each return is a row of the table. Assumes nothing.
-use borrow.Author.Rules.{rules}
 use mathlib.Core.Path.{sym, ◌∙◌}
-use borrow.Author.Tests.{not-true, not-false}
 use Rattle.octets.proofs.Tests.{tests}
 use Rattle.list.specs.Entry.{object_kind, kind_ok}
 use Rattle.list.proofs.entries.kind_ok.Goals as goal

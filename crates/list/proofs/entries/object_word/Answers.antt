@@ -1,5 +1,4 @@
 -- A head of 12 bytes, or a shorter one. Assumes nothing.
-use borrow.Author.Rules.{rules}
 use mathlib.Core.Path.{◌∙◌}
 use Rattle.octets.proofs.Tests.{tests}
 use Rattle.list.specs.Entry.{word_after}

@@ -1,15 +1,7 @@
 -- A good entry by `plain-sound` or `object-sound`; where 0 is told nothing is said. Assumes nothing.
-use borrow.Author.Rules.{rules}
 use native.Mathlib.Omega.{arith}
 use mathlib.Core.Path.{sym, ◌∙◌}
-use borrow.Author.Tests.{not-false}
 use Rattle.list.proofs.Quick.{plain-sound, object-sound}
-use Rattle.list.proofs.entries.quick_size.Reads as reads
-use Rattle.list.proofs.entries.quick_size.Lts as lts
-use Rattle.list.proofs.entries.ending.Reads as ending-reads
-use Rattle.list.proofs.entries.is_object.Reads as is-object-reads
-use Rattle.octets.proofs.half_in.Reads as half-in-reads
-use Rattle.octets.proofs.word_in.Reads as word-in-reads
 use Rattle.list.proofs.entries.quick_size.Goals as goal
 
 -- src/entries.rt:175:9

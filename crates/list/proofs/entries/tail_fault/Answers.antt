@@ -1,12 +1,10 @@
 -- Each return is a case of `tail_fault`; what is checked is what follows the SID. Assumes nothing.
-use borrow.Author.Rules.{rules}
 use native.Mathlib.Omega.{arith}
 use mathlib.Core.Bool.{true}
 use mathlib.Core.Path.{◌≡◌, sym, ap, ap₂, ◌∙◌}
 use Prim.Native.Nat.{ℕ, ◌-◌, ◌≤◌, ◌<◌}
 use lib.ListN.{take, drop, length-take}
 use lib.Dec.{eqb}
-use borrow.Author.Tests.{not-true, not-false}
 use Rattle.condition.specs.Kind.{stored_end, up_to_four}
 use Rattle.condition.proofs.Ends.{stored-within}
 use Rattle.list.specs.Entry.{conditional_kind, kind_of, size_of, sid_end, tail_of}

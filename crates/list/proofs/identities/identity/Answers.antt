@@ -1,7 +1,5 @@
 -- Not exactly one SID, or one that is told by which placeholder it is. Assumes nothing.
-use borrow.Author.Rules.{rules}
 use mathlib.Core.Path.{sym, ◌∙◌}
-use borrow.Author.Tests.{not-true, not-false}
 use Rattle.list.specs.Identity.{identity_of}
 use Rattle.list.proofs.identities.identity.Goals as goal
 

@@ -1,5 +1,4 @@
 -- A short slice is no SID; of a longer one only the length is left to test. Assumes nothing.
-use borrow.Author.Rules.{rules}
 use native.Mathlib.Omega.{arith}
 use mathlib.Core.Path.{sym, ap, ◌∙◌}
 use lib.ListN.{length}

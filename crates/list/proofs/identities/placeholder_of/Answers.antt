@@ -1,5 +1,4 @@
 -- The bytes are those of the one placeholder, of the other, or of neither. Assumes nothing.
-use borrow.Author.Rules.{rules}
 use mathlib.Core.Path.{◌≡◌, sym, ◌∙◌}
 use mathlib.Core.Bool.{true, false}
 use Rattle.octets.specs.Bytes.{same_bytes}

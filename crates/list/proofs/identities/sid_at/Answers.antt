@@ -1,5 +1,4 @@
 -- Each return is a case of `length_of_sid`. Assumes nothing.
-use borrow.Author.Rules.{rules}
 use native.Mathlib.Nat.{add-zero}
 use lib.Seq.{get_or-drop}
 use Rattle.octets.proofs.Tests.{tests}

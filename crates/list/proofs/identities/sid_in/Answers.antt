@@ -1,5 +1,4 @@
 -- A SID that is cut, or for which there are no eight bytes, is none. Assumes nothing.
-use borrow.Author.Rules.{rules}
 use native.Mathlib.Omega.{arith}
 use mathlib.Core.Path.{sym, ◌∙◌}
 use lib.ListN.{drop, length-drop}

@@ -1,10 +1,8 @@
 -- Each return is a case of `header_ok`. Assumes nothing.
-use borrow.Author.Rules.{rules}
 use native.Mathlib.Omega.{arith}
 use mathlib.Core.Path.{◌≡◌, sym, ap, ◌∙◌}
 use mathlib.Core.Bool.{true}
 use Prim.Native.Nat.{ℕ}
-use borrow.Author.Tests.{not-true, not-false}
 use lib.Dec.{eqb}
 use Rattle.list.specs.List.{rev_ok, rev_of}
 use Rattle.list.proofs.Walks.{short, bad-rev, bad-zero, bad-size, last-test}

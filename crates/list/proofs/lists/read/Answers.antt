@@ -1,7 +1,5 @@
 -- What `check` found decides, then the room in the row. Assumes nothing.
-use borrow.Author.Rules.{rules}
 use mathlib.Core.Path.{◌≡◌, sym, ap, ◌∙◌}
-use lib.ListN.{length}
 use Rattle.list.specs.Entry.{access}
 use Rattle.list.specs.List.{check_of}
 use Rattle.list.specs.Answer.{reading_values}

@@ -1,5 +1,4 @@
 -- The two bytes behind type and flags, by the law of one byte and the rest, twice. Assumes nothing.
-use borrow.Author.Rules.{rules}
 use native.Mathlib.Omega.{arith}
 use Prim.Native.Nat.{◌+◌}
 use lib.Seq.{drop-drop}

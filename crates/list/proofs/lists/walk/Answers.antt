@@ -1,5 +1,4 @@
 -- The loop has passed good entries up to `at`: the whole walk is what is left of it. Assumes nothing.
-use borrow.Author.Rules.{rules}
 use native.Mathlib.Omega.{arith}
 use mathlib.Core.Path.{◌≡◌, sym, ap, subst, ◌∙◌}
 use mathlib.Core.List.{List}

@@ -1,8 +1,6 @@
 -- A type without a word, or an object type. Assumes nothing.
-use borrow.Author.Rules.{rules}
 use mathlib.Core.Path.{◌≡◌, sym, ap, ◌∙◌}
 use mathlib.Core.Bool.{true, false}
-use borrow.Author.Tests.{not-true, not-false}
 use Rattle.list.specs.Entry.{object_kind, head_of, word_after, kind_of}
 use Rattle.list.proofs.looks.look_at.Goals as goal
 

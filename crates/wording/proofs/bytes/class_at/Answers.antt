@@ -1,5 +1,4 @@
 -- Past the end stands no digit and no letter. Assumes nothing.
-use borrow.Author.Rules.{rules}
 use Rattle.wording.proofs.Leaf.{class-end}
 use Rattle.wording.proofs.bytes.class_at.Goals as goal
 

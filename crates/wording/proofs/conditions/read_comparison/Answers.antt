@@ -1,5 +1,4 @@
 -- Each return is a case of `read_comparison`: by the first operand, the sign, the second operand. Assumes nothing.
-use borrow.Author.Rules.{rules}
 use mathlib.Core.Path.{ap, ◌∙◌}
 use Rattle.wording.specs.Inner.Walk.{wrong_of}
 use Rattle.wording.proofs.Compare.{placed-o, placed-r, comparison-bad, comparison-not, comparison-bad-2, comparison-all}

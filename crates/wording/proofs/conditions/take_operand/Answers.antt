@@ -1,5 +1,4 @@
 -- What was found says that a name lies inside the text and that a number is in the range; then its token is laid. Assumes nothing.
-use borrow.Author.Rules.{rules}
 use native.Mathlib.Omega.{arith}
 use Rattle.wording.proofs.Taken.{took-name, took_number, operand-name, operand-number, operand-wrong}
 use Rattle.wording.proofs.conditions.take_operand.Goals as goal

@@ -1,5 +1,4 @@
 -- Both cases hold the place. Assumes nothing.
-use borrow.Author.Rules.{rules}
 use mathlib.Core.Path.{sym, ap}
 use Rattle.wording.specs.Inner.Walk.{wrong_of}
 use Rattle.wording.proofs.conditions.wrong_at.Goals as goal

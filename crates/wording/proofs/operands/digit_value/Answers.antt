@@ -1,5 +1,4 @@
 -- A digit is from 48 to 57. Assumes nothing.
-use borrow.Author.Rules.{rules}
 use native.Mathlib.Omega.{arith}
 use mathlib.Core.Path.{refl}
 use Rattle.wording.proofs.Leaf.{is_digit}

@@ -1,10 +1,6 @@
 -- The loop: where the name from `end` on ends, there the whole name ends. Assumes nothing.
-use borrow.Author.Rules.{rules}
 use native.Mathlib.Omega.{arith}
 use mathlib.Core.Path.{sym, ◌∙◌}
-use Prim.Native.Nat.{ℕ, ◌-◌, ◌≤◌}
-use lib.ListN.{length}
-use Rattle.wording.specs.Inner.Leaf.{NameEnd}
 use Rattle.wording.proofs.Leaf.{name-stop, name-more}
 use Rattle.wording.proofs.operands.name_end.Goals as goal
 

@@ -1,11 +1,7 @@
 -- The loop: where the name from `end` on ends, there the whole name ends. Assumes nothing.
-use borrow.Author.Rules.{rules}
-use native.Mathlib.Omega.{arith}
-use mathlib.Core.Path.{sym, ◌∙◌}
 use Prim.Native.Nat.{ℕ, ◌-◌, ◌≤◌}
 use lib.ListN.{length}
 use Rattle.wording.specs.Inner.Leaf.{NameEnd}
-use Rattle.wording.proofs.Leaf.{name-stop, name-more}
 use Rattle.wording.proofs.operands.name_end.Given as goal
 
 abbrev pub invariant-loop-end : goal.invariant-loop-end

@@ -1,13 +1,10 @@
 -- The loop: what is found from `end` on, behind v, is what is found from `at` on, behind `first`. The test keeps v in the range, so no product wraps. Assumes nothing.
-use borrow.Author.Rules.{rules}
-use native.Mathlib.Omega.{arith}
-use mathlib.Core.Path.{◌≡◌, sym, ◌∙◌}
+use mathlib.Core.Path.{◌≡◌}
 use Prim.Native.Nat.{◌-◌, ◌≤◌}
 use lib.ListN.{length, drop}
 use Rattle.wording.specs.declared.operands.Found.{Found}
 use Rattle.wording.specs.Reader.{read_digits}
 use Rattle.wording.specs.Inner.Leaf.{digits_found}
-use Rattle.wording.proofs.Leaf.{limit-low, limit-high, under, number-stop, number-over, number_more}
 use Rattle.wording.proofs.operands.number_from.Given as goal
 
 abbrev pub invariant-loop-d : goal.invariant-loop-d

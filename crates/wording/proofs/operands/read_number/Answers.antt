@@ -1,5 +1,4 @@
 -- No digit, or one and what is found behind it. Assumes nothing.
-use borrow.Author.Rules.{rules}
 use native.Mathlib.Omega.{arith}
 use mathlib.Core.Path.{sym, ◌∙◌}
 use Rattle.wording.proofs.Leaf.{number-none, number-first}

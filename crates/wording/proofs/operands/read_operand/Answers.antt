@@ -1,5 +1,4 @@
 -- By the first byte: a name, a number behind a minus, or a number. Assumes nothing.
-use borrow.Author.Rules.{rules}
 use native.Mathlib.Omega.{arith}
 use mathlib.Core.Path.{sym, ◌∙◌}
 use Rattle.wording.proofs.Leaf.{op-name, op-minus, op-plain}

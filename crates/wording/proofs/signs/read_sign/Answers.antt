@@ -1,7 +1,5 @@
 -- Each return is a case of `read_sign`, by the tests that led there. Assumes nothing.
-use borrow.Author.Rules.{rules}
 use mathlib.Core.Path.{sym, ◌∙◌}
-use borrow.Author.Tests.{not-true, not-false}
 use Rattle.wording.proofs.Leaf.{sign-equal, sign-equal-no, sign-unequal, sign-unequal-no, sign-most, sign_below, sign-none, sign-least, sign_above}
 use Rattle.wording.proofs.signs.read_sign.Goals as goal
 

@@ -1,5 +1,4 @@
 -- Field by field, by what each callee ensures. Assumes nothing.
-use borrow.Author.Rules.{rules}
 use Rattle.wording.proofs.Emits.{note-is}
 use Rattle.wording.proofs.tallies.note.Goals as goal
 

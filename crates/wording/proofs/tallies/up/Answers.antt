@@ -1,5 +1,4 @@
 -- Each way is a case of `up_by`. Assumes nothing.
-use borrow.Author.Rules.{rules}
 use Rattle.wording.proofs.Emits.{up-yes, up-no}
 use Rattle.wording.proofs.tallies.up.Goals as goal
 

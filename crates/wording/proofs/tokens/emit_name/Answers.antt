@@ -1,5 +1,4 @@
 -- No room, or the token on the front of what is lent from there on. Assumes nothing.
-use borrow.Author.Rules.{rules}
 use native.Mathlib.Omega.{arith}
 use Rattle.condition.specs.Token.{name as named, push}
 use Rattle.wording.specs.Stored.{wide, token_bytes}

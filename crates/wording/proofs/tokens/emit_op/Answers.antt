@@ -1,5 +1,4 @@
 -- One byte where the tally ends, or none. Assumes nothing.
-use borrow.Author.Rules.{rules}
 use Rattle.wording.proofs.Emits.{put-yes, put-no}
 use Rattle.wording.proofs.tokens.emit_op.Goals as goal
 

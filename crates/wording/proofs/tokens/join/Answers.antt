@@ -1,5 +1,4 @@
 -- The operator, or nothing. Assumes nothing.
-use borrow.Author.Rules.{rules}
 use Rattle.wording.proofs.Emits.{join-yes}
 use Rattle.wording.proofs.tokens.join.Goals as goal
 

@@ -1,5 +1,4 @@
 -- No room, or the bytes on the front of what is lent from there on. Assumes nothing.
-use borrow.Author.Rules.{rules}
 use native.Mathlib.Omega.{arith}
 use Rattle.wording.proofs.Laid.{no_room, fits}
 use Rattle.wording.proofs.tokens.lay.Goals as goal

@@ -1,11 +1,7 @@
 -- Five stores, then the loop: behind them stand the bytes of `i` of the name, each with a 0. Assumes nothing.
-use borrow.Author.Rules.{rules}
 use native.Mathlib.Omega.{arith}
-use mathlib.Core.Path.{◌≡◌, refl, ◌∙◌}
-use Prim.Native.Nat.{◌+◌, ◌-◌, ◌*◌, ◌≤◌}
-use lib.ListN.{length, take, length-set}
-use Rattle.octets.specs.Bytes.{put_at}
-use Rattle.wording.specs.Stored.{wide}
+use mathlib.Core.Path.{refl, ◌∙◌}
+use lib.ListN.{length-set}
 use Rattle.wording.proofs.Laid.{wide-none, wide-more, name-all}
 use Rattle.wording.proofs.tokens.lay_name.Goals as goal
 

@@ -1,12 +1,9 @@
 -- Five stores, then the loop: behind them stand the bytes of `i` of the name, each with a 0. Assumes nothing.
-use borrow.Author.Rules.{rules}
-use native.Mathlib.Omega.{arith}
-use mathlib.Core.Path.{◌≡◌, refl, ◌∙◌}
+use mathlib.Core.Path.{◌≡◌}
 use Prim.Native.Nat.{◌+◌, ◌-◌, ◌*◌, ◌≤◌}
-use lib.ListN.{length, take, length-set}
+use lib.ListN.{length, take}
 use Rattle.octets.specs.Bytes.{put_at}
 use Rattle.wording.specs.Stored.{wide}
-use Rattle.wording.proofs.Laid.{wide-none, wide-more, name-all}
 use Rattle.wording.proofs.tokens.lay_name.Given as goal
 
 abbrev pub invariant-loop-i : goal.invariant-loop-i

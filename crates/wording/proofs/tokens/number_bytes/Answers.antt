@@ -1,5 +1,4 @@
 -- The bytes are those of `spell 8`, one division after the other. Assumes nothing.
-use borrow.Author.Rules.{rules}
 use mathlib.Core.Path.{refl}
 use Rattle.octets.specs.Bytes.{spell}
 use Rattle.wording.specs.Stored.{token_bytes}

@@ -1,6 +1,4 @@
 -- Each return is a case of `word_of`. Assumes nothing.
-use borrow.Author.Rules.{rules}
-use borrow.Author.Tests.{not-true, not-false}
 use Rattle.wording.proofs.Laid.{word-plain, word_none, word-minus}
 use Rattle.wording.proofs.tokens.word_of.Goals as goal
 

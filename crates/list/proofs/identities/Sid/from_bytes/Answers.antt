@@ -1,11 +1,9 @@
 -- Refused, nothing was put; else the bytes stand before the zeros. Assumes nothing.
-use borrow.Author.Rules.{rules}
 use native.Mathlib.Omega.{arith}
 use mathlib.Core.Path.{sym, ap, ◌∙◌}
 use mathlib.Core.Bool.{true}
 use mathlib.Core.List.{List}
 use Prim.Native.Nat.{ℕ}
-use borrow.Author.Tests.{not-true, not-false}
 use lib.ListN.{length, replicate}
 use Rattle.list.specs.Identity.{made_of}
 use Rattle.list.specs.declared.identities.Made.{Made}
