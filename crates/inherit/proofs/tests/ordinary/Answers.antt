@@ -1,0 +1,9 @@
+-- An identity that is no placeholder. Assumes nothing.
+use borrow.Author.Rules.{rules}
+use mathlib.Core.Path.{ap}
+use Prim.Native.Nat.{ℕ}
+use lib.Dec.{eqb}
+use Rattle.inherit.proofs.tests.ordinary.Goals as goal
+
+pub returns : goal.returns
+returns c = ap (λ (n : ℕ). eqb n 0) c.identity.ensures
