@@ -6,14 +6,13 @@ use Prim.Native.Nat.{ℕ, zero, suc, ◌+◌, ◌-◌, ◌*◌, ◌≤◌, ◌<�
 use native.Mathlib.Nat.{not-suc-le-zero}
 use native.Mathlib.Omega.{arith}
 use lib.ListN.{length, get_or, take, drop, length-append, length-drop, drop_of_length-le, take-append-drop}
-use lib.Seq.{get_or-take, get_or-drop, drop-drop, drop_at, take_at, length-take-le}
+use lib.Seq.{get_or-drop, drop-drop, drop_at, take_at, length-take-le}
 use borrow.Author.Tests.{eq-eqb, ne_eqb, le-leb, lt-leb, lt-ltb, le-ltb, eqb-true}
 use Rattle.octets.specs.Order.{need}
 use Rattle.octets.specs.Bytes.{same_bytes, among}
 use Rattle.list.specs.Identity.{is_sid, whole_sid}
 use Rattle.list.specs.Good.{Every}
 use Rattle.octets.proofs.Places.{split}
-use Rattle.octets.proofs.Same.{same-no}
 use Rattle.list.proofs.Sids.{whole-short, whole-sid, whole_says, whole-joined, one-sid, sid-length}
 use Rattle.access.specs.Held.{sids_in, held_of, reaches_end}
 use Rattle.access.specs.Inner.Decide.{held_fault}

@@ -1,5 +1,6 @@
 // Who may open an object, and a list's entries stepped through where they lie.
 #![tactic(auto)]
+
 ghost use Rattle.std.specs.Prelude.{◌≡◌, []};
 ghost use Rattle.access.specs.Open.{may_open_of, question_by};
 ghost use Rattle.access.specs.Walk.{pointed_of};

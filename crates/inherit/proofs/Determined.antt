@@ -1,6 +1,5 @@
 -- The computation's contract allows one answer only, and one content of the result's buffer.
 use mathlib.Core.Path.{◌≡◌, refl, sym, ap, ◌∙◌}
-use mathlib.Core.Bool.{Bool, true, false}
 use native.Mathlib.Omega.{arith}
 use Rattle.list.specs.Answer.{Values}
 use Rattle.octets.proofs.Tests.{off}

@@ -7,7 +7,6 @@ use mathlib.Core.Option.{none, some}
 use Prim.Native.Nat.{ℕ}
 use native.Mathlib.Omega.{arith}
 use lib.ListN.{set}
-use Rattle.octets.specs.Bytes.{has}
 use Rattle.list.specs.Entry.{access, flags_ok, mask_of}
 use Rattle.list.specs.List.{entries_of}
 use Rattle.list.specs.Good.{Whole, Every}

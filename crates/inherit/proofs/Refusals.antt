@@ -1,7 +1,6 @@
 -- The answer by cases, in the order of the tests.
 use mathlib.Core.Path.{◌≡◌, sym, ◌∙◌}
 use mathlib.Core.Bool.{true, false}
-use mathlib.Core.List.{List}
 use Prim.Native.Nat.{ℕ}
 use Rattle.octets.specs.Order.{need}
 use Rattle.list.specs.Entry.{access}

@@ -1,5 +1,6 @@
 // The computation of a new object's list.
 #![tactic(auto)]
+
 ghost use Rattle.std.specs.Prelude.{◌≡◌, cond, length};
 ghost use Rattle.list.specs.Entry.{access};
 ghost use Rattle.inherit.specs.Branch.{result_of};

@@ -1,5 +1,4 @@
 -- A fault of the held bytes first, then one of the table. Assumes nothing.
-use borrow.Author.Rules.{rules}
 use mathlib.Core.Path.{sym, ap, ◌∙◌}
 use mathlib.Core.Bool.{Bool, cond}
 use Rattle.access.proofs.Opens.{held_first, table-next}

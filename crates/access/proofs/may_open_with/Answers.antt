@@ -1,11 +1,10 @@
 -- By cases: a generic bit, no list, a list that is refused, a fault of the held bytes or the table; then what its entries decide. Assumes nothing.
-use borrow.Author.Rules.{rules}
 use native.Mathlib.Omega.{arith}
 use mathlib.Core.Path.{◌≡◌, sym, ap, ap₂, ◌∙◌}
 use mathlib.Core.Bool.{Bool, true, false, not}
 use Prim.Native.Nat.{ℕ}
 use lib.Bits.{bit_and}
-use borrow.Author.Tests.{eq-eqb, ne_eqb, not-true, not-false}
+use borrow.Author.Tests.{eq-eqb, ne_eqb}
 use Rattle.octets.specs.Bytes.{has}
 use Rattle.list.specs.Entry.{access}
 use Rattle.list.specs.List.{lent, entries_of, check_of}

@@ -1,12 +1,5 @@
 -- With `left` entries from `at` on still to be gone past, what is found from there on is what is found from the first on. Assumes nothing.
-use borrow.Author.Rules.{rules}
-use native.Mathlib.Omega.{arith}
-use mathlib.Core.Path.{◌≡◌, ◌∙◌}
-use Prim.Native.Nat.{◌+◌, ◌≤◌}
-use lib.ListN.{length, drop}
-use lib.Seq.{drop-drop}
-use Rattle.list.specs.Entry.{size_of}
-use Rattle.access.proofs.Seeks.{Seeking, seeking-first, seeking-end, seeking-here, seeking-size, seeking-more}
+use Rattle.access.proofs.Seeks.{Seeking}
 use Rattle.access.proofs.seek.Given as goal
 
 abbrev pub invariant-loop-left : goal.invariant-loop-left

@@ -1,6 +1,5 @@
 -- The list's own check says whether it reads as done; then the entry is sought up to where the entries end. Assumes nothing.
 use Rattle.access.specs.declared.Pointed.TheVariants.{Done as Stepped}
-use borrow.Author.Rules.{rules}
 use mathlib.Core.Path.{◌≡◌, sym, ap, subst, ◌∙◌}
 use mathlib.Core.List.{List}
 use Prim.Native.Nat.{ℕ}

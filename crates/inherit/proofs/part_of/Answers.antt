@@ -5,10 +5,10 @@ use Rattle.inherit.proofs.part_of.Goals as goal
 
 pub returns-then-gives : goal.returns-then-gives
 returns-then-gives c =
-    let e : c.before.args.gives ≡ true = c.if-gives.true in
+    let e : c.args.gives ≡ true = c.if-gives.true in
     rw e
 
 pub returns : goal.returns
 returns c =
-    let e : c.before.args.gives ≡ false = c.if-gives.false in
+    let e : c.args.gives ≡ false = c.if-gives.false in
     rw e

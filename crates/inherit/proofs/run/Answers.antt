@@ -1,10 +1,8 @@
 -- The plan's parts, the identities in their buffers, and the law that what the plan gives is the result (`run_is`). Assumes nothing.
-use borrow.Author.Rules.{rules}
 use native.Mathlib.Omega.{arith}
-use mathlib.Core.Path.{◌≡◌, sym, ap, ap₂, subst, ◌∙◌}
+use mathlib.Core.Path.{◌≡◌, sym, ap₂, subst, ◌∙◌}
 use mathlib.Core.List.{List}
 use Prim.Native.Nat.{ℕ}
-use lib.ListN.{length}
 use Rattle.list.specs.Entry.{access}
 use Rattle.list.proofs.Sids.{Holds}
 use Rattle.inherit.specs.declared.Computed.{Computed}

@@ -1,5 +1,5 @@
 -- Which passes the code makes over which list, in which branch, and what they give together.
-use Rattle.std.specs.Prelude.{ℕ, ◌≤◌, ◌≡◌, List, [], ◌++◌, Bool, true, false, not, cond, ◌&&◌, length, take, drop, eqb}
+use Rattle.std.specs.Prelude.{ℕ, ◌≤◌, List, [], ◌++◌, Bool, true, false, not, cond, ◌&&◌, take, drop, eqb}
 use Rattle.octets.specs.Bytes.{front}
 use Rattle.list.specs.Entry.{access}
 use Rattle.list.specs.Good.{Passes}

@@ -1,10 +1,8 @@
 -- An entry without a condition counts; else what follows its SID is its expression. Assumes nothing.
-use borrow.Author.Rules.{rules}
 use native.Mathlib.Omega.{arith}
 use mathlib.Core.Path.{◌≡◌, sym, ap, ap₂, ◌∙◌}
 use Prim.Native.Nat.{ℕ, ◌-◌}
 use lib.ListN.{take, drop}
-use borrow.Author.Tests.{not-true, not-false}
 use Rattle.condition.specs.Meaning.{said_by}
 use Rattle.condition.specs.declared.truths.Truth.{Truth}
 use Rattle.list.specs.Entry.{conditional_kind, kind_of}

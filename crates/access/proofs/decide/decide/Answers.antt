@@ -1,10 +1,9 @@
 -- What is decided from an entry on is what is decided from the first on (`Deciding`). Assumes nothing.
-use borrow.Author.Rules.{rules}
 use native.Mathlib.Omega.{arith}
 use mathlib.Core.Path.{◌≡◌, sym, ap, subst, ◌∙◌}
 use mathlib.Core.Bool.{true}
 use mathlib.Core.List.{List}
-use Prim.Native.Nat.{ℕ, ◌+◌, ◌-◌, ◌≤◌}
+use Prim.Native.Nat.{ℕ, ◌+◌, ◌≤◌}
 use lib.ListN.{length, drop}
 use Rattle.list.specs.Entry.{size_of}
 use Rattle.list.specs.Look.{look_of}
@@ -12,7 +11,7 @@ use Rattle.list.specs.declared.looks.Look.{Look}
 use Rattle.octets.proofs.Places.{rest-is}
 use Rattle.access.specs.Held.{held_of, reaches_end}
 use Rattle.access.specs.Inner.Decide.{SidIn, left_after, turn_with}
-use Rattle.access.proofs.Turns.{Deciding, deciding-none, inside, sid-here, decides-yes, decides-end, decides-no, decides-on}
+use Rattle.access.proofs.Turns.{deciding-none, inside, sid-here, decides-yes, decides-end, decides-no, decides-on}
 use Rattle.access.proofs.decide.decide.Tie as tie
 use Rattle.access.proofs.decide.decide.Lts as lts
 use Rattle.access.proofs.decide.decide.Reads as lts-reads

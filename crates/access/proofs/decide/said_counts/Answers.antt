@@ -1,5 +1,4 @@
 -- By cases of what was said. Assumes nothing.
-use borrow.Author.Rules.{rules}
 use mathlib.Core.Path.{sym, ap, ◌∙◌}
 use mathlib.Core.Bool.{not}
 use Rattle.condition.specs.declared.truths.Truth.{Truth}

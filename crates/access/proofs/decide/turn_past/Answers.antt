@@ -1,7 +1,5 @@
 -- By cases: passed over, allowed, denied. Assumes nothing.
-use borrow.Author.Rules.{rules}
 use mathlib.Core.Path.{sym, ◌∙◌}
-use borrow.Author.Tests.{not-true, not-false}
 use Rattle.access.specs.Held.{held_of}
 use Rattle.access.proofs.Weighs.{passed_over, allowed, denied}
 use Rattle.access.proofs.decide.turn_past.Goals as goal

@@ -1,10 +1,8 @@
 -- By cases: no object entry, no ObjectType, and one that is compared. Assumes nothing.
-use borrow.Author.Rules.{rules}
 use mathlib.Core.Path.{◌≡◌, sym, ap, ◌∙◌}
 use mathlib.Core.List.{List}
 use Prim.Native.Nat.{ℕ}
 use lib.Bits.{bit_and}
-use borrow.Author.Tests.{not-true, not-false}
 use Rattle.octets.specs.Bytes.{same_bytes}
 use Rattle.list.specs.Entry.{object_kind, kind_of}
 use Rattle.access.proofs.Weighs.{plain-counts, untyped-counts, typed-counts}

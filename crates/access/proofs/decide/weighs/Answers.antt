@@ -1,11 +1,9 @@
 -- By cases: no bit is left, IO, another type, another SID; then the condition decides. Assumes nothing.
-use borrow.Author.Rules.{rules}
 use native.Mathlib.Omega.{arith}
 use mathlib.Core.Path.{◌≡◌, sym, ap, ap₂, ◌∙◌}
 use Prim.Native.Nat.{ℕ, ◌+◌, ◌-◌, ◌≤◌}
 use lib.ListN.{length, drop, length-drop}
 use lib.Seq.{length-take-le}
-use borrow.Author.Tests.{not-true, not-false}
 use Rattle.list.specs.Identity.{length_of_sid}
 use Rattle.list.specs.Entry.{sid_len_of}
 use Rattle.list.specs.declared.looks.Look.{Look}

@@ -1,9 +1,8 @@
 -- The loop has counted the SIDs before `at`. Assumes nothing.
-use borrow.Author.Rules.{rules}
 use native.Mathlib.Omega.{arith}
 use mathlib.Core.Path.{◌≡◌, sym, subst, ◌∙◌}
-use Prim.Native.Nat.{ℕ, ◌+◌, ◌-◌}
-use lib.ListN.{length, drop}
+use Prim.Native.Nat.{ℕ, ◌+◌}
+use lib.ListN.{drop}
 use Rattle.list.specs.Identity.{whole_sid}
 use Rattle.access.proofs.Holds.{Counted, counted_none, counted-more, counted-bad, counted-many, counted-fine}
 use Rattle.access.proofs.held.held_fault.Tie as tie
@@ -19,7 +18,7 @@ more : (c : Else1)
     → Counted c.args.held.now (c.loop-at.at + c.sid_in-len.result) (c.loop-at.count + 1)
 more c =
     let h = c.args.held.now in
-    let e : c.before.sid-in.result ≡ whole_sid (drop l.loop.at h) = c.sid_in-len.ensures in
+    let e : c.sid_in-len.result ≡ whole_sid (drop c.loop-at.at h) = c.sid_in-len.ensures in
     subst (λ (n : ℕ). Counted h (c.loop-at.at + n) (c.loop-at.count + 1)) (sym e)
     (counted-more h c.loop-at.at c.loop-at.count c.loop-at.invariant (omega (arith, e, c.if-len-eq0.false)))
 

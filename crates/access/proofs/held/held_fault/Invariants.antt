@@ -1,11 +1,7 @@
 -- The loop has counted the SIDs before `at`. Assumes nothing.
-use borrow.Author.Rules.{rules}
-use native.Mathlib.Omega.{arith}
-use mathlib.Core.Path.{◌≡◌, sym, subst, ◌∙◌}
-use Prim.Native.Nat.{ℕ, ◌+◌, ◌-◌}
-use lib.ListN.{length, drop}
-use Rattle.list.specs.Identity.{whole_sid}
-use Rattle.access.proofs.Holds.{Counted, counted_none, counted-more, counted-bad, counted-many, counted-fine}
+use Prim.Native.Nat.{◌-◌}
+use lib.ListN.{length}
+use Rattle.access.proofs.Holds.{Counted}
 use Rattle.access.proofs.held.held_fault.Given as goal
 
 abbrev pub invariant-loop-at : goal.invariant-loop-at

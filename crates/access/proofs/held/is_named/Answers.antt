@@ -1,5 +1,4 @@
 -- Another byte at the mark, or behind it, says that the bytes differ; else they are compared. Assumes nothing.
-use borrow.Author.Rules.{rules}
 use native.Mathlib.Omega.{arith}
 use mathlib.Core.Path.{sym, ◌∙◌}
 use Rattle.octets.proofs.Same.{other_byte}

@@ -1,10 +1,9 @@
 -- The loop has found no SID that is the same before `at`. Assumes nothing.
-use borrow.Author.Rules.{rules}
 use native.Mathlib.Omega.{arith}
 use mathlib.Core.Path.{sym, refl, ◌∙◌}
-use Prim.Native.Nat.{◌+◌, ◌-◌, ◌*◌}
-use lib.ListN.{length, get_or}
-use Rattle.access.proofs.Holds.{Looks, Next, looks-none, looks-end, looks-next, looks-found, looks-more}
+use Prim.Native.Nat.{◌+◌, ◌*◌}
+use lib.ListN.{get_or}
+use Rattle.access.proofs.Holds.{Next, looks-none, looks-end, looks-next, looks-found, looks-more}
 use Rattle.access.proofs.held.names.Tie as tie
 use Rattle.access.proofs.held.names.Lts as lts
 use Rattle.access.proofs.held.names.Reads as lts-reads
@@ -25,7 +24,9 @@ pub loop-at-init : goal.loop-at-init
 loop-at-init c = looks-none c.args.sid.now c.args.held.now c.requires.1
 
 pub bounds-held-at : goal.bounds-held-at
-bounds-held-at c = omega (arith, (next c.before).long, (next c.before).inside)
+bounds-held-at c =
+    let n = looks-next c.args.sid.now c.args.held.now c.loop-at.at c.loop-at.invariant (omega arith) in
+    omega (arith, n.long, n.inside)
 
 pub overflow_cast-end : goal.overflow_cast-end
 overflow_cast-end c = omega (arith, c.shared_slice_known-in-loop-at-1.given (c.loop-at.at + 1))

@@ -1,5 +1,4 @@
 -- The place past what is found, by what is found. Assumes nothing.
-use borrow.Author.Rules.{rules}
 use mathlib.Core.Path.{sym, ap, ◌∙◌}
 use Rattle.access.specs.Walk.{past_by}
 use Rattle.access.specs.declared.steps.Found.{Found}

@@ -1,5 +1,4 @@
 -- What stands there is what the list's own check says of the bytes from there on; at and past the end those are none. Assumes nothing.
-use borrow.Author.Rules.{rules}
 use native.Mathlib.Omega.{arith}
 use mathlib.Core.Path.{◌≡◌, sym, ap, ◌∙◌}
 use mathlib.Core.List.{List}

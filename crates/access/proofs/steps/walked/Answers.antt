@@ -1,5 +1,4 @@
 -- A part from the list's start up to its end is what is taken; of nothing, nothing. Assumes nothing.
-use borrow.Author.Rules.{rules}
 use mathlib.Core.Path.{sym, ap, ◌∙◌}
 use Rattle.list.specs.declared.lists.Reading.{Reading}
 use Rattle.list.proofs.Answers.{checked}

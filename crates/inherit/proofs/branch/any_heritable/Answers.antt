@@ -1,5 +1,4 @@
 -- None was found so far (`Searching`); the first that is found ends it. Assumes nothing.
-use borrow.Author.Rules.{rules}
 use native.Mathlib.Omega.{arith}
 use mathlib.Core.Path.{◌≡◌, sym, ap, ◌∙◌}
 use mathlib.Core.List.{List}
@@ -12,7 +11,7 @@ use Rattle.list.specs.declared.looks.Look.{Look}
 use Rattle.octets.proofs.Places.{rest-is}
 use Rattle.list.proofs.Rows.{passes-turn}
 use Rattle.inherit.specs.Copies.{heritable}
-use Rattle.inherit.proofs.Search.{Searching, searching-none, searching-more, found, none_found}
+use Rattle.inherit.proofs.Search.{searching-none, searching-more, found, none_found}
 use Rattle.inherit.proofs.branch.any_heritable.Tie as tie
 use Rattle.inherit.proofs.branch.any_heritable.Lts as lts
 use Rattle.inherit.proofs.branch.any_heritable.Reads as lts-reads

@@ -1,5 +1,4 @@
 -- By the table. Assumes nothing.
-use borrow.Author.Rules.{rules}
 use mathlib.Core.Path.{◌≡◌}
 use mathlib.Core.Bool.{true, false}
 use borrow.Author.Tests.{not-true, not-false}
@@ -27,7 +26,7 @@ unfolding plan_of
 returns-then-not-s c =
     let a = c.args in
     let h : a.heritable ≡ true = c.if-not-heritable.false in
-    let k : a.s.creator ≡ false = c.if-not-s.true in
+    let k : a.s.creator ≡ false = not-true _ c.if-not-s.true in
     rw (h, k)
 
 pub returns-then-s-2 : goal.returns-then-s-2
@@ -35,7 +34,7 @@ unfolding plan_of
 returns-then-s-2 c =
     let a = c.args in
     let h : a.heritable ≡ true = c.if-not-heritable.false in
-    let k : a.s.creator ≡ true = c.if-not-s.false in
+    let k : a.s.creator ≡ true = not-false _ c.if-not-s.false in
     let d : a.s.defaulted ≡ true = c.if-s-2.true in
     rw (h, k, d)
 
@@ -44,6 +43,6 @@ unfolding plan_of
 returns c =
     let a = c.args in
     let h : a.heritable ≡ true = c.if-not-heritable.false in
-    let k : a.s.creator ≡ true = c.if-not-s.false in
+    let k : a.s.creator ≡ true = not-false _ c.if-not-s.false in
     let d : a.s.defaulted ≡ false = c.if-s-2.false in
     rw (h, k, d) c.merged.ensures

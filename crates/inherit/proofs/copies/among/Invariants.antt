@@ -1,12 +1,8 @@
 -- The loop has found none up to `i`. Assumes nothing.
-use borrow.Author.Rules.{rules}
-use native.Mathlib.Omega.{arith}
-use mathlib.Core.Path.{◌≡◌, sym, ap, ◌∙◌}
-use mathlib.Core.Bool.{Bool, ◌||◌}
-use Prim.Native.Nat.{◌+◌, ◌≤◌, ◌-◌}
+use mathlib.Core.Path.{◌≡◌}
+use Prim.Native.Nat.{◌≤◌, ◌-◌}
 use lib.ListN.{length, take, drop}
 use Rattle.octets.specs.Bytes.{among}
-use Rattle.inherit.proofs.Types.{among-step, among-end}
 use Rattle.inherit.proofs.copies.among.Given as goal
 
 abbrev pub invariant-loop-i : goal.invariant-loop-i

@@ -1,5 +1,4 @@
 -- The bit of a container, or of another object. Assumes nothing.
-use borrow.Author.Rules.{rules}
 use mathlib.Core.Path.{◌∙◌}
 use Rattle.inherit.proofs.copies.inherits.Goals as goal
 

@@ -1,5 +1,4 @@
 -- Each pass by its own test and with its own flags. Assumes nothing.
-use borrow.Author.Rules.{rules}
 use mathlib.Core.Path.{ap, ◌∙◌}
 use mathlib.Core.Bool.{not, ◌&&◌}
 use lib.Bits.{bit_or}

@@ -1,8 +1,6 @@
 -- Flags, then the type. Assumes nothing.
-use borrow.Author.Rules.{rules}
 use mathlib.Core.Path.{◌≡◌, sym, ap, ◌∙◌}
 use mathlib.Core.Bool.{true, false, cond, ◌&&◌}
-use borrow.Author.Tests.{not-true, not-false}
 use lib.ListN.{take}
 use Rattle.octets.specs.Bytes.{guid_at, has, among}
 use Rattle.list.specs.Entry.{object_kind, flags_of}

@@ -1,14 +1,12 @@
 -- Each return is a test of the definition. Assumes nothing.
-use borrow.Author.Rules.{rules}
 use mathlib.Core.Path.{◌≡◌, sym, ap, ◌∙◌}
 use mathlib.Core.Bool.{true, false, not}
-use borrow.Author.Tests.{not-true, not-false}
 use Rattle.octets.specs.Bytes.{has}
 use Rattle.inherit.proofs.copies.takes_second.Goals as goal
 
 pub returns-then-not-container : goal.returns-then-not-container
 returns-then-not-container c =
-    let e : c.before.args.container ≡ false = c.if-not-container.true in
+    let e : c.args.container ≡ false = c.if-not-container.true in
     rw e
 
 pub returns-then-not-has : goal.returns-then-not-has

@@ -1,9 +1,8 @@
 -- Each return is a test of the definition. Assumes nothing.
-use borrow.Author.Rules.{rules}
 use mathlib.Core.Path.{sym, ap, ◌∙◌}
 use mathlib.Core.List.{List}
 use Prim.Native.Nat.{ℕ}
-use borrow.Author.Tests.{not-true, not-false, eq-eqb, ne_eqb}
+use borrow.Author.Tests.{eq-eqb, ne_eqb}
 use lib.ListN.{take}
 use Rattle.octets.specs.Bytes.{among}
 use Rattle.inherit.proofs.copies.type_applies.Goals as goal

@@ -1,5 +1,4 @@
 -- One placeholder, the other, or neither. Assumes nothing.
-use borrow.Author.Rules.{rules}
 use mathlib.Core.Path.{sym, ◌∙◌}
 use borrow.Author.Tests.{eq-eqb, ne_eqb}
 use Rattle.inherit.specs.Last.{in_place}

@@ -1,5 +1,4 @@
 -- The mask as it came, the printed text's, or the mended one. Assumes nothing.
-use borrow.Author.Rules.{rules}
 use mathlib.Core.Path.{sym, ap, ◌∙◌}
 use Prim.Native.Nat.{ℕ}
 use lib.Bits.{bit_and}

@@ -1,5 +1,4 @@
 -- Three mappings, one after the other. Assumes nothing.
-use borrow.Author.Rules.{rules}
 use mathlib.Core.Path.{ap, ◌∙◌}
 use Prim.Native.Nat.{ℕ}
 use Rattle.inherit.specs.Last.{joined, mapped}

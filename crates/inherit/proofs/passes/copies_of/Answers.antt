@@ -1,5 +1,4 @@
 -- A pass of the list, or both passes of the parent's. Assumes nothing.
-use borrow.Author.Rules.{rules}
 use native.Mathlib.Omega.{arith}
 use Rattle.inherit.specs.Inner.Emit.{times_of}
 use Rattle.inherit.proofs.One.{once-le}

@@ -1,5 +1,4 @@
 -- No copy, or as many as the entry gives, each of the same length. Assumes nothing.
-use borrow.Author.Rules.{rules}
 use native.Mathlib.Omega.{arith}
 use mathlib.Core.Path.{◌≡◌, refl, sym, ap, ap₂, ◌∙◌}
 use mathlib.Core.Bool.{false}
@@ -57,7 +56,7 @@ pub returns-then-times-eq0 : goal.returns-then-times-eq0
 returns-then-times-eq0 c =
     let s = start c.before.before in
     let z = times-here c.before.before in
-    let n : times_of (given k) s.args.origin (bytes k) ≡ 0 = omega arith in
+    let n : times_of (given c.before.before) s.args.origin (bytes c.before.before) ≡ 0 = omega arith in
     (size-here c.before.before, sym (gives-from s.args.rev (bytes c.before.before) s.requires.0 (given c.before.before) s.args.origin ∙ rw n (measures (omega arith) refl refl)))
 
 pub copy_len-long-requires : goal.copy_len-long-requires
@@ -70,7 +69,7 @@ overflow_mul-result c =
     let s = start c.before.before.before in
     let l = copy-le (given c.before.before.before) s.args.rev (bytes c.before.before.before) s.requires.0 s.requires.2 s.requires.3 in
     let t = times-le (given c.before.before.before) s.args.origin (bytes c.before.before.before) in
-    let m : times_of (given k) s.args.origin (bytes k) * long k ≤ 2 * (size_of (bytes k) + 68) = mul-le-mul t l in
+    let m : times_of (given c.before.before.before) s.args.origin (bytes c.before.before.before) * long c.before.before.before ≤ 2 * (size_of (bytes c.before.before.before) + 68) = mul-le-mul t l in
     rw (times-here c.before.before.before, c.copy_len-long.ensures) (omega (arith, m, small-here c.before.before.before))
 
 pub returns : goal.returns

@@ -12,7 +12,7 @@ use Rattle.inherit.specs.declared.passes.Measure.{Measure}
 use Rattle.octets.proofs.Places.{rest-is}
 use Rattle.inherit.specs.Asked.{Given}
 use Rattle.inherit.specs.Inner.Emit.{given_by, measure_from}
-use Rattle.inherit.proofs.Loops.{next-entry, inside, Measuring, measuring-none, few, measuring-turn, measured-all}
+use Rattle.inherit.proofs.Loops.{next-entry, inside, measuring-none, few, measuring-turn, measured-all}
 use Rattle.inherit.proofs.One.{from-count}
 use Rattle.inherit.proofs.passes.measure_pass.Tie as tie
 use Rattle.inherit.proofs.passes.measure_pass.Lts as lts

@@ -1,5 +1,4 @@
 -- An entry that is taken or not, in the fields that a look found. Assumes nothing.
-use borrow.Author.Rules.{rules}
 use native.Mathlib.Omega.{arith}
 use mathlib.Core.Path.{◌≡◌, sym, ap, ◌∙◌}
 use mathlib.Core.Bool.{true}
@@ -48,28 +47,28 @@ module _ (c : After-pick) where
 
 -- it is
 taken : (c : Else1) → takes_by (given c.before.before) (start c.before.before).args.pass (bytes c.before.before) ≡ true
-taken c = taken_here c.before.before ∙ c.if-not-picked.false
+taken c = taken_here c.before.before ∙ not-false _ c.if-not-picked.false
 
 pub returns-then-not-picked : goal.returns-then-not-picked
 returns-then-not-picked c =
     let s = start c.before.before.before in
     let a = s.args in
-    let n = writes-none a.rev (bytes c.before.before.before) s.requires.sound.0 (given c.before.before.before) a.pass (taken_here c.before.before.before ∙ c.if-not-picked.true) in
+    let n = writes-none a.rev (bytes c.before.before.before) s.requires.sound.0 (given c.before.before.before) a.pass (taken_here c.before.before.before ∙ not-true _ c.if-not-picked.true) in
     (size-here c.before.before.before, sym (ap length n), sym (ap (λ (w : List ℕ). front w a.out.now) n))
 
 pub put_copy-bytes-requires : goal.put_copy-bytes-requires
 put_copy-bytes-requires c =
-    let s = start c.before.before.before.before.before in
+    let s = start c.before.before.before.before.before.before in
     let a = s.args in
-    let n = length-one a.rev (bytes c.before.before.before.before.before) s.requires.sound.0 (given c.before.before.before.before.before) a.pass (taken c.before.before.before) in
-    (bounds access a.rev (bytes c.before.before.before.before.before) s.requires.sound.0, c.look_at-look.ensures, omega (arith, s.requires.t_in_bounds, n))
+    let n = length-one a.rev (bytes c.before.before.before.before.before.before) s.requires.sound.0 (given c.before.before.before.before.before.before) a.pass (taken c.before.before.before.before) in
+    (bounds access a.rev (bytes c.before.before.before.before.before.before) s.requires.sound.0, c.look_at-look.ensures, omega (arith, s.requires.t_in_bounds, n))
 
 pub returns : goal.returns
 returns c =
-    let s = start c.before.before.before.before.before.before.before.before in
+    let s = start c.before.before.before.before.before.before.before.before.before in
     let a = s.args in
-    let n = length-one a.rev (bytes c.before.before.before.before.before.before.before.before) s.requires.sound.0 (given c.before.before.before.before.before.before.before.before) a.pass (taken c.before.before.before.before.before.before) in
-    let o = writes_one a.rev (bytes c.before.before.before.before.before.before.before.before) s.requires.sound.0 (given c.before.before.before.before.before.before.before.before) a.pass (taken c.before.before.before.before.before.before) in
+    let n = length-one a.rev (bytes c.before.before.before.before.before.before.before.before.before) s.requires.sound.0 (given c.before.before.before.before.before.before.before.before.before) a.pass (taken c.before.before.before.before.before.before.before) in
+    let o = writes_one a.rev (bytes c.before.before.before.before.before.before.before.before.before) s.requires.sound.0 (given c.before.before.before.before.before.before.before.before.before) a.pass (taken c.before.before.before.before.before.before.before) in
     let mask = c.last_mask-mask.ensures ∙ ap (λ (x : Look). last_mask a.terms.rule a.terms.mapping x.mask) c.look_at-look.ensures in
     let z = rw (c.pick-picked.ensures.1, mask) at c.put_copy-bytes.ensures.1 in
-    (size-here c.before.before.before.before.before.before.before.before, c.put_copy-bytes.ensures.0 ∙ sym n, z ∙ ap (λ (x : List ℕ). front x a.out.now) (sym o))
+    (size-here c.before.before.before.before.before.before.before.before.before, c.put_copy-bytes.ensures.0 ∙ sym n, z ∙ ap (λ (x : List ℕ). front x a.out.now) (sym o))

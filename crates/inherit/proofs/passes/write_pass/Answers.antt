@@ -10,7 +10,7 @@ use Rattle.list.specs.Good.{Sound}
 use Rattle.octets.proofs.Places.{rest-is}
 use Rattle.inherit.specs.Asked.{Given}
 use Rattle.inherit.specs.Inner.Emit.{given_by, emit_of}
-use Rattle.inherit.proofs.Loops.{next-entry, inside, Writing, writing-none, to-fits, long, one-fits, writing-turn, written_all}
+use Rattle.inherit.proofs.Loops.{next-entry, inside, writing-none, to-fits, long, one-fits, writing-turn, written_all}
 use Rattle.inherit.proofs.passes.write_pass.Tie as tie
 use Rattle.inherit.proofs.passes.write_pass.Lts as lts
 use Rattle.inherit.proofs.passes.write_pass.Reads as lts-reads
@@ -139,9 +139,12 @@ write_one-one-requires c =
     let s = begun c.before.before.before in
     let r = sym (rest-is (bytes s) l.at) in
     let f = fits-here c.before.before.before in
-    let n = long-here c.before.before.before.before in record { sound = (subst (Sound access s.args.rev) r (sound-here c.before.before.before), s.requires.passes.1); t_in_bounds = subst
+    let n = long-here c.before.before.before.before in record {
+      sound = (subst (Sound access s.args.rev) r (sound-here c.before.before.before), s.requires.passes.1);
+      t_in_bounds = subst
           (λ (t : List ℕ). length (flatten (emit_of (given s) s.args.pass t)) ≤ length (take (length l.out - l.to) (drop l.to l.out))) r
-          (omega (arith, ap length (rest-is l.out l.to), length-drop l.to l.out)) }
+          (omega (arith, ap length (rest-is l.out l.to), length-drop l.to l.out));
+    }
 
 pub overflow_add-to : goal.overflow_add-to
 overflow_add-to c =
@@ -166,7 +169,7 @@ loop-left-preserved c =
     let a = s.args in
     let w = c.write_one-one in
     writing-turn (given s) a.pass a.rev (bytes s) a.n (buffer s) l.out l.to l.at l.left l.invariant s.requires.list_in_bounds t.loop-left-test.true
-    w.new.0 w.result.bytes w.result.size (out-here c.before.before.before.before.before) (bytes-here c.before.before.before.before.before) (size-here c.before.before.before.before.before)
+    w.new.out w.result.bytes w.result.size (out-here c.before.before.before.before.before) (bytes-here c.before.before.before.before.before) (size-here c.before.before.before.before.before)
 
 pub shape_of-out : goal.shape_of-out
 shape_of-out c = long-here c.before.before

@@ -1,5 +1,4 @@
 -- No list, no room, or a header and then all entries. Assumes nothing.
-use borrow.Author.Rules.{rules}
 use native.Mathlib.Omega.{arith}
 use mathlib.Core.Path.{◌≡◌, ap, ◌∙◌}
 use mathlib.Core.List.{List, flatten}
@@ -107,7 +106,7 @@ write_all-requires c =
     let s = start (measured c.before.before.before.before) in
     let x = c.put_header.new.out in
     let n = length-take-le (length x - 8) (drop 8 x) (omega (arith, length-drop 8 x)) in
-    record { ready = (s.requires.0, s.requires.1.0); default_in_bounds = omega (arith, n, fits c.before.before.before.before, still-long c.before.before.before.before, bytes-are (measured c.before.before.before.before)) }
+    record { ready = (s.requires.ready, s.requires.count_bound.0); default_in_bounds = omega (arith, n, fits c.before.before.before.before, still-long c.before.before.before.before, bytes-are (measured c.before.before.before.before)) }
 
 pub overflow_cast-result-2 : goal.overflow_cast-result-2
 overflow_cast-result-2 c =
@@ -125,7 +124,7 @@ returns c =
     let x = c.put_header in
     let y = c.write_all in
     let n = bytes-are m in
-    let t = tail-front (header c.before.before.before.before.before.before.before) (flatten (entries s)) (buffer s) x.new.0 y.new.0 8 x.ensures y.ensures (header-long c.before.before.before.before.before.before.before)
+    let t = tail-front (header c.before.before.before.before.before.before.before) (flatten (entries s)) (buffer s) x.new.out y.new.out 8 x.ensures y.ensures (header-long c.before.before.before.before.before.before.before)
     (omega (arith, n, fits c.before.before.before.before.before.before.before, header-long c.before.before.before.before.before.before.before)) in
     fill-measured (given s) a.plan a.parts (parent s) (creator s) (default s) (buffer s) m.if-plan.false
     (measure m) m.measure_all-m.ensures.0 (fits c.before.before.before.before.before.before.before) (short c.before.before.before.before.before.before.before) _

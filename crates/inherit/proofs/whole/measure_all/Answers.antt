@@ -1,5 +1,4 @@
 -- Three lists, and their measures together. Assumes nothing.
-use borrow.Author.Rules.{rules}
 use native.Mathlib.Omega.{arith}
 use mathlib.Core.Path.{ap₂, ◌∙◌}
 use lib.ListN.{drop}

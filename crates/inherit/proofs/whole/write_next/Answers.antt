@@ -1,5 +1,4 @@
 -- The pass on the tail, and the whole once the tail is back. Assumes nothing.
-use borrow.Author.Rules.{rules}
 use mathlib.Core.Path.{ap}
 use mathlib.Core.List.{flatten}
 use Prim.Native.Nat.{ℕ, ◌+◌}
