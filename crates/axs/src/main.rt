@@ -4,6 +4,7 @@
 // written in one, and what no contract can say is that these places are reached: `read_all`, `write_some`, `write_all`, `say` and `main`
 // are to be read.
 #![tactic(auto)]
+
 ghost use Rattle.std.specs.Prelude.{◌+◌, ◌-◌, ◌≤◌, ◌<◌, [], ◌≡◌, IfOk, length, take, drop};
 ghost use Rattle.std.specs.Io.{WritesAtMost};
 ghost use Rattle.io.specs.Counts.{IsPrefixLen, clamp_len};

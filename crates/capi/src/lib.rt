@@ -1,5 +1,6 @@
-// The C library (include/pipeteasel.h): thin calls, one for each public call of the layers, and nothing else.
+// The calls of the C library, which capi_c exports: thin, one for each public call of the layers, and nothing else.
 #![tactic(auto)]
+
 ghost use Rattle.std.specs.Prelude.{◌≡◌, [], length};
 ghost use Rattle.octets.specs.Bytes.{has as Given·has};
 ghost use Rattle.condition.specs.Meaning.{evaluate_of};
@@ -83,16 +84,14 @@ fn mapping_of(m: &[u32; 4]) -> Mapping
 }
 
 // Which identity the bytes are: 0 exactly one SID and no placeholder, 1 creator owner, 2 creator group, 6 not exactly one SID.
-#[unsafe(no_mangle)]
-pub extern "C" fn pt_identity(bytes: &[u8]) -> u32
+pub fn pt_identity(bytes: &[u8]) -> u32
     ensures { result ≡ identity_of bytes.now }
 {
     list::identity(bytes) as u32
 }
 
 // Reads a list, with the offset of each entry in the row.
-#[unsafe(no_mangle)]
-pub extern "C" fn pt_read(list: &[u8], row: &mut [u16], answer: &mut [u32; 8])
+pub fn pt_read(list: &[u8], row: &mut [u16], answer: &mut [u32; 8])
     ensures answer { answer.new ≡ places_of (read_values list.now (length row.old)) }
     ensures index { row.new ≡ row_by (read_of access list.now (length row.old)) list.now row.old }
 {
@@ -143,8 +142,7 @@ fn put_found(entry: &mut [u32; 8], answer: &mut [u32; 8], found: Found)
 }
 
 // The first entry that begins at or after a place: a viewer's walk.
-#[unsafe(no_mangle)]
-pub extern "C" fn pt_step(list: &[u8], place: u32, entry: &mut [u32; 8], answer: &mut [u32; 8])
+pub fn pt_step(list: &[u8], place: u32, entry: &mut [u32; 8], answer: &mut [u32; 8])
     ensures answer { answer.new ≡ places_of (pointed_values (pointed_of list.now place)) }
     ensures entry { entry.new ≡ entry_places (pointed_of list.now place) }
 {
@@ -158,8 +156,7 @@ pub extern "C" fn pt_step(list: &[u8], place: u32, entry: &mut [u32; 8], answer:
 }
 
 // Lays two lists side by side, with the numbers of the removed entries and then of the added ones in the row.
-#[unsafe(no_mangle)]
-pub extern "C" fn pt_compare(first: &[u8], second: &[u8], row: &mut [u32], answer: &mut [u32; 8])
+pub fn pt_compare(first: &[u8], second: &[u8], row: &mut [u32], answer: &mut [u32; 8])
     ensures answer { answer.new ≡ places_of (compared_values (compared_of first.now second.now (length row.old))) }
     ensures row { row.new ≡ row_after first.now second.now row.old }
 {
@@ -195,8 +192,7 @@ fn put_access(answer: &mut [u32; 8], access: Access)
 }
 
 // Whether a person may open an object: the SIDs held, laid end to end, and the wanted mask.
-#[unsafe(no_mangle)]
-pub extern "C" fn pt_may_open(
+pub fn pt_may_open(
     given: u32,
     list: &[u8],
     kind: &[u8; 16],
@@ -213,8 +209,7 @@ pub extern "C" fn pt_may_open(
 }
 
 // The same, with a table of the names that conditions may ask for.
-#[unsafe(no_mangle)]
-pub extern "C" fn pt_may_open_with(
+pub fn pt_may_open_with(
     given: u32,
     list: &[u8],
     kind: &[u8; 16],
@@ -243,8 +238,7 @@ fn truth_number(truth: Truth) -> u32
 }
 
 // What a conditional expression in its stored form says under a table of names.
-#[unsafe(no_mangle)]
-pub extern "C" fn pt_evaluate(expression: &[u8], table: &[u8], answer: &mut [u32; 8])
+pub fn pt_evaluate(expression: &[u8], table: &[u8], answer: &mut [u32; 8])
     ensures { answer.new ≡ places_of (evaluated_values (evaluate_of expression.now table.now)) }
 {
     match condition::evaluate(expression, table) {
@@ -254,8 +248,7 @@ pub extern "C" fn pt_evaluate(expression: &[u8], table: &[u8], answer: &mut [u32
 }
 
 // The stored form of a condition typed as text, on the front of `out`.
-#[unsafe(no_mangle)]
-pub extern "C" fn pt_condition(text: &[u8], out: &mut [u8], answer: &mut [u32; 8])
+pub fn pt_condition(text: &[u8], out: &mut [u8], answer: &mut [u32; 8])
     ensures answer_after { answer.new ≡ places_of (translated_values (translation_of text.now (length out.old))) }
     ensures out { out.new ≡ out_after text.now out.old }
 {
@@ -277,8 +270,7 @@ pub extern "C" fn pt_condition(text: &[u8], out: &mut [u8], answer: &mut [u32; 8
 
 // The list of a new object. Settings: 1 parent present, 2 creator present, 4 default present, 8 container,
 // 16 auto inherit, 32 default descriptor, 64 protected. Mapping: read, write, execute, all.
-#[unsafe(no_mangle)]
-pub extern "C" fn pt_compute<'a>(
+pub fn pt_compute<'a>(
     rule: u32,
     settings: u32,
     mapping: &[u32; 4],
@@ -386,16 +378,14 @@ fn put_answer(answer: &mut [u32; 8], a: Answer)
 }
 
 // Bytes of room that a tree needs; 0 where a limit is out of range.
-#[unsafe(no_mangle)]
-pub extern "C" fn pt_room(objects: u32, steps: u32) -> usize
+pub fn pt_room(objects: u32, steps: u32) -> usize
     ensures { result ≡ room_of objects steps }
 {
     tree::room(objects, steps)
 }
 
 // Starts a tree in a lent room.
-#[unsafe(no_mangle)]
-pub extern "C" fn pt_start(
+pub fn pt_start(
     room: &mut [u8],
     objects: u32,
     steps: u32,
@@ -416,8 +406,7 @@ pub extern "C" fn pt_start(
 }
 
 // Adds an object. Parent: 0xFFFFFFFF for none. Traits: 1 container, 2 protected mark, 4 an own list is given.
-#[unsafe(no_mangle)]
-pub extern "C" fn pt_add(
+pub fn pt_add(
     room: &mut [u8],
     parent: u32,
     traits: u32,
@@ -447,14 +436,7 @@ pub extern "C" fn pt_add(
 }
 
 // Sets an object's own list, or removes it.
-#[unsafe(no_mangle)]
-pub extern "C" fn pt_set_list(
-    room: &mut [u8],
-    object: u32,
-    given: u32,
-    list: &[u8],
-    answer: &mut [u32; 8],
-)
+pub fn pt_set_list(room: &mut [u8], object: u32, given: u32, list: &[u8], answer: &mut [u32; 8])
     ensures answer { answer.new ≡ places_of (Calls·values_of (alter_to object (Edit·list (lent (yes_of given) list.now)) room.old).answer) }
     ensures room { room.new ≡ (alter_to object (Edit·list (lent (yes_of given) list.now)) room.old).bytes }
 {
@@ -462,8 +444,7 @@ pub extern "C" fn pt_set_list(
 }
 
 // Sets an object's protected mark.
-#[unsafe(no_mangle)]
-pub extern "C" fn pt_set_mark(room: &mut [u8], object: u32, mark: u32, answer: &mut [u32; 8])
+pub fn pt_set_mark(room: &mut [u8], object: u32, mark: u32, answer: &mut [u32; 8])
     ensures answer { answer.new ≡ places_of (Calls·values_of (alter_to object (Edit·mark (yes_of mark)) room.old).answer) }
     ensures room { room.new ≡ (alter_to object (Edit·mark (yes_of mark)) room.old).bytes }
 {
@@ -471,14 +452,7 @@ pub extern "C" fn pt_set_mark(room: &mut [u8], object: u32, mark: u32, answer: &
 }
 
 // Sets an object's owner and group.
-#[unsafe(no_mangle)]
-pub extern "C" fn pt_set_owner(
-    room: &mut [u8],
-    object: u32,
-    owner: &[u8],
-    group: &[u8],
-    answer: &mut [u32; 8],
-)
+pub fn pt_set_owner(room: &mut [u8], object: u32, owner: &[u8], group: &[u8], answer: &mut [u32; 8])
     ensures answer { answer.new ≡ places_of (Calls·values_of (alter_to object (Edit·owners owner.now group.now) room.old).answer) }
     ensures room { room.new ≡ (alter_to object (Edit·owners owner.now group.now) room.old).bytes }
 {
@@ -486,8 +460,7 @@ pub extern "C" fn pt_set_owner(
 }
 
 // Takes off the latest change not yet undone.
-#[unsafe(no_mangle)]
-pub extern "C" fn pt_undo(room: &mut [u8], answer: &mut [u32; 8])
+pub fn pt_undo(room: &mut [u8], answer: &mut [u32; 8])
     ensures answer { answer.new ≡ places_of (Calls·values_of (undo_to room.old).answer) }
     ensures room { room.new ≡ (undo_to room.old).bytes }
 {
@@ -495,8 +468,7 @@ pub extern "C" fn pt_undo(room: &mut [u8], answer: &mut [u32; 8])
 }
 
 // An object's computed list.
-#[unsafe(no_mangle)]
-pub extern "C" fn pt_list(room: &[u8], object: u32, out: &mut [u8], answer: &mut [u32; 8])
+pub fn pt_list(room: &[u8], object: u32, out: &mut [u8], answer: &mut [u32; 8])
     ensures answer { answer.new ≡ places_of (Calls·values_of (list_to object room.now out.old).answer) }
     ensures result { out.new ≡ (list_to object room.now out.old).bytes }
 {
@@ -504,8 +476,7 @@ pub extern "C" fn pt_list(room: &[u8], object: u32, out: &mut [u8], answer: &mut
 }
 
 // An object's own list.
-#[unsafe(no_mangle)]
-pub extern "C" fn pt_own(room: &[u8], object: u32, out: &mut [u8], answer: &mut [u32; 8])
+pub fn pt_own(room: &[u8], object: u32, out: &mut [u8], answer: &mut [u32; 8])
     ensures answer { answer.new ≡ places_of (Calls·values_of (own_to object room.now out.old).answer) }
     ensures result { out.new ≡ (own_to object room.now out.old).bytes }
 {
@@ -513,8 +484,7 @@ pub extern "C" fn pt_own(room: &[u8], object: u32, out: &mut [u8], answer: &mut 
 }
 
 // An object's own data but for its list, as the script's record 1 lays it out.
-#[unsafe(no_mangle)]
-pub extern "C" fn pt_data(room: &[u8], object: u32, out: &mut [u8], answer: &mut [u32; 8])
+pub fn pt_data(room: &[u8], object: u32, out: &mut [u8], answer: &mut [u32; 8])
     ensures answer { answer.new ≡ places_of (Calls·values_of (data_to object room.now out.old).answer) }
     ensures result { out.new ≡ (data_to object room.now out.old).bytes }
 {
@@ -522,16 +492,14 @@ pub extern "C" fn pt_data(room: &[u8], object: u32, out: &mut [u8], answer: &mut
 }
 
 // How many objects stand and how many steps are kept.
-#[unsafe(no_mangle)]
-pub extern "C" fn pt_counts(room: &[u8], answer: &mut [u32; 8])
+pub fn pt_counts(room: &[u8], answer: &mut [u32; 8])
     ensures { answer.new ≡ places_of (Calls·values_of (counts_to room.now)) }
 {
     put_answer(answer, tree::counts(room));
 }
 
 // Plays a whole script in a room of its own and writes the program's text.
-#[unsafe(no_mangle)]
-pub extern "C" fn pt_play(script: &[u8], out: &mut [u8], answer: &mut [u32; 8])
+pub fn pt_play(script: &[u8], out: &mut [u8], answer: &mut [u32; 8])
     ensures { (answer.new ≡ places_of (Calls·values_of (play_to script.now out.old).answer)) × (out.new ≡ (play_to script.now out.old).bytes) }
 {
     put_answer(answer, script::play(script, out));
