@@ -7,11 +7,11 @@
 
 ghost use Rattle.std.specs.Prelude.{◌+◌, ◌-◌, ◌≤◌, ◌<◌, [], ◌≡◌, IfOk, length, take, drop};
 ghost use Rattle.std.specs.Io.{WritesAtMost};
-ghost use Rattle.io.specs.Counts.{IsPrefixLen, clamp_len};
 ghost use Rattle.axs.specs.declared.End.TheVariants.{Failed as End-as-Failed};
+ghost use Rattle.axs.specs.Counts.{answer_of, clamp_len};
 ghost use Rattle.axs.specs.Reads.{end_at, on_head, on_records, after_read, Reached};
 ghost use Rattle.axs.specs.Speech.{speech, Spoken, RunSays, Written};
-ghost use Rattle.axs.specs.Inner.Buffered.{answer_of, bound_at, read_by, stand_at, course_at, Onward, said_on, Listable};
+ghost use Rattle.axs.specs.Inner.Buffered.{bound_at, read_by, stand_at, course_at, Onward, said_on, Listable};
 
 use std::io;
 use std::io::{Read, Stdin, Write};
@@ -123,7 +123,7 @@ fn answered(moved: io::Result<usize>) -> isize
 
 // How many of the bytes lent a read or a write moved that answered this: none where it failed, and never more than there are.
 fn count(got: isize, lent: &[u8]) -> usize
-    ensures in_bounds { IsPrefixLen result lent.now }
+    ensures in_bounds { result ≤ length lent.now }
     ensures value { result ≡ clamp_len got (length lent.now) }
 {
     if got <= 0 {

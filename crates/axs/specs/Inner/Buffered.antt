@@ -1,6 +1,5 @@
 -- As the code has it: a buffer whose first n bytes are held, and an answer's case.
-use Rattle.std.specs.Prelude.{ℕ, ◌+◌, ◌≤◌, ◌<◌, min, ◌≡◌, true, cond, List, take, eqb, ℤ, pos, negsuc, Result, Ok, Err}
-use Rattle.std_io.specs.declared.io.error.Error.{Error}
+use Rattle.std.specs.Prelude.{ℕ, ◌+◌, ◌≤◌, ◌<◌, min, ◌≡◌, true, cond, List, take, eqb, ℤ, pos, negsuc}
 use Rattle.tree.specs.Formed.{formed}
 use Rattle.tree.specs.declared.Answer.{Answer}
 use Rattle.tree.specs.declared.Answer.TheVariants.{Done, Refused}
@@ -21,11 +20,6 @@ stand_at at n b r = record { at = at; left = take n b; room = r }
 unfoldable pub course_at : Turn → List ℕ → List ℕ → Course
 course_at (Turn-as-On at n) b r = On (stand_at at n b r)
 course_at (Turn-as-Over e) b r = Over e r
-
--- what a read or a write answered, as one number
-abbrev pub answer_of : Result ℕ Error → ℤ
-answer_of (Ok n) = pos n
-answer_of (Err e) = negsuc 0
 
 -- what a read answered that was lent the n bytes of which t are the first afterwards
 unfoldable pub read_by : ℤ → ℕ → List ℕ → Read
