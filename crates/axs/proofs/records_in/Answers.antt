@@ -3,21 +3,14 @@ use native.Mathlib.Omega.{arith}
 use Prim.Native.Nat.{◌≤◌}
 use lib.ListN.{length}
 use Rattle.axs.proofs.Courses.{over-onward, used-most, records-far, records-bad, records-on, records-onward}
-use Rattle.axs.proofs.records_in.Tie as tie
-use Rattle.axs.proofs.records_in.Lts as lts
-use Rattle.axs.proofs.records_in.Reads as lts-reads
 use Rattle.axs.proofs.records_in.Goals as goal
 
-abbrev After-advance : Type 0
-After-advance = lts.After-advance tie.the-claims lts-reads.Pre lts-reads.Post tie.handed_clauses
-
-used-within : (c : After-advance) → c.advance-run.result.used ≤ c.args.held
-used-within c =
-    let a = c.args in
-    used-most a.at a.held a.buffer.now a.room.now _ _ _ c.advance-run.ensures.used_value.0 c.advance-run.ensures.used_value.1.0 c.advance-run.ensures.used_value.1.1
-
 pub overflow_add-next : goal.overflow_add-next
-overflow_add-next c = let u = used-within c.before.before.before.before.before in omega arith
+overflow_add-next c =
+    let a = c.args in
+    let e = c.advance-run.ensures.used_value in
+    let u = used-most a.at a.held a.buffer.now a.room.now _ _ _ e.0 e.1.0 e.1.1 in
+    omega arith
 
 pub returns-then-next-gt-MOST : goal.returns-then-next-gt-MOST
 returns-then-next-gt-MOST c =
@@ -32,7 +25,11 @@ returns-then-run c =
     record { room_after = records-bad a.at a.held a.buffer.now a.room.now _ _ _ e.used_value.0 e.used_value.1.0 e.used_value.1.1 _ (omega arith) c.if-run.true; onward = over-onward _ _ _ }
 
 pub overflow_sub-result : goal.overflow_sub-result
-overflow_sub-result c = let u = used-within c.before.before.before.before.before.before.before.before in omega arith
+overflow_sub-result c =
+    let a = c.args in
+    let e = c.advance-run.ensures.used_value in
+    let u = used-most a.at a.held a.buffer.now a.room.now _ _ _ e.0 e.1.0 e.1.1 in
+    omega arith
 
 pub returns : goal.returns
 returns c =

@@ -1,4 +1,5 @@
 -- The three ends of a run. Assumes nothing.
+use borrow.Author.Rules.{rules}
 use native.Mathlib.Omega.{arith}
 use Rattle.axs.proofs.Speeches.{listing-said, bad-said, failed-any}
 use Rattle.axs.proofs.text_of.Goals as goal
@@ -6,7 +7,7 @@ use Rattle.axs.proofs.text_of.Goals as goal
 pub returns-in-Whole : goal.returns-in-Whole
 returns-in-Whole c =
     listing-said c.args.end c.args.room.now c.args.out.now c.requires.0 _ _ _ c.on_output.ensures
-    c.in-Whole.is c.requires.1 (λ i. (c.shared_slice_known-1.given i).fits) c.listing.ensures
+    c.in-Whole.is c.requires.1 (λ i. (c.shared_slice_known-1.given i).fits) (search rules)
 
 pub returns-in-Bad : goal.returns-in-Bad
 returns-in-Bad c =

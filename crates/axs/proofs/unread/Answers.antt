@@ -3,9 +3,5 @@ use mathlib.Core.List.{[]}
 use Rattle.axs.proofs.Speeches.{unread-said}
 use Rattle.axs.proofs.unread.Goals as goal
 
--- CONV: no need
--- slice-aggregate-put : tie.Need-slice-aggregate-put
--- slice-aggregate-put c = search rules
-
 pub returns : goal.returns
 returns c = unread-said c.args.out.now _ [] c.requires c.put.ensures
