@@ -36,10 +36,8 @@ fn before(i: usize) -> u8 {
 }
 
 fn prepare(out: &mut [u8]) {
-    let mut i = 0;
-    while i < out.len() {
+    for i in 0..out.len() {
         out[i] = before(i);
-        i += 1;
     }
 }
 
@@ -47,11 +45,9 @@ fn prepare(out: &mut [u8]) {
 fn print_sum(to: Stdout, bytes: &[u8]) {
     let mut a = 1u32;
     let mut b = 0u32;
-    let mut i = 0;
-    while i < bytes.len() {
-        a = (a + wide(bytes[i])) % SUM_BASE;
+    for x in bytes {
+        a = (a + wide(*x)) % SUM_BASE;
         b = (b + a) % SUM_BASE;
-        i += 1;
     }
     print_word(to, a);
     print_space(to);

@@ -21,19 +21,15 @@ fn before(i: usize) -> u16 {
 }
 
 fn prepare(row: &mut [u16]) {
-    let mut i = 0;
-    while i < row.len() {
+    for i in 0..row.len() {
         row[i] = before(i);
-        i += 1;
     }
 }
 
 fn print_row(to: Stdout, row: &[u16]) {
-    let mut i = 0;
-    while i < row.len() {
+    for x in row {
         print_space(to);
-        print_half(to, row[i]);
-        i += 1;
+        print_half(to, *x);
     }
 }
 

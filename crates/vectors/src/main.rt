@@ -64,8 +64,9 @@ fn main(rt: HostRuntime) {
     let mut area = [0u8; MOST_CASE];
     let mut room = [0u8; MOST_ROOM];
     let mut lent = 0usize;
-    let mut turns = u32::MAX;
-    while 0 < turns && run_next(from, to, &mut area, &mut room, &mut lent) {
-        turns -= 1;
+    for _ in 0..u32::MAX {
+        if !run_next(from, to, &mut area, &mut room, &mut lent) {
+            return;
+        }
     }
 }

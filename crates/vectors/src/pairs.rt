@@ -22,19 +22,15 @@ fn before(i: usize) -> u32 {
 }
 
 fn prepare(row: &mut [u32]) {
-    let mut i = 0;
-    while i < row.len() {
+    for i in 0..row.len() {
         row[i] = before(i);
-        i += 1;
     }
 }
 
 fn print_row(to: Stdout, row: &[u32]) {
-    let mut i = 0;
-    while i < row.len() {
+    for x in row {
         print_space(to);
-        print_word(to, row[i]);
-        i += 1;
+        print_word(to, *x);
     }
 }
 
