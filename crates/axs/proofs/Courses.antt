@@ -21,7 +21,7 @@ use Rattle.axs.specs.declared.End.{End}
 use Rattle.axs.specs.declared.End.TheVariants.{Whole, Bad, Failed}
 use Rattle.axs.specs.declared.Turn.{Turn}
 use Rattle.axs.specs.declared.Turn.TheVariants.{On as Turn-as-On, Over as Turn-as-Over}
-use Rattle.io.specs.Counts.{clamp_len}
+use Rattle.axs.specs.Counts.{clamp_len}
 use Rattle.axs.specs.Reads.{Gave, Course, On, Over, most, on_records, on_head, on_bytes, end_at, after_read}
 use Rattle.axs.specs.Inner.Buffered.{bound_at, stand_at, course_at, read_by, Onward}
 

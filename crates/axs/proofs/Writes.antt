@@ -8,7 +8,7 @@ use lib.ListN.{length, take, drop, length-drop}
 use lib.Seq.{length-take-le}
 use lib.Dec.{eqb}
 use lib.IntN.{ℤ}
-use Rattle.io.specs.Counts.{clamp_len}
+use Rattle.axs.specs.Counts.{clamp_len}
 use borrow.Author.Tests.{ne_eqb}
 use Rattle.axs.specs.Speech.{whole_by, Written}
 

@@ -1,12 +1,12 @@
 -- What the program says once a run is over, and where.
 use Rattle.std.specs.Prelude.{ℕ, ◌-◌, ◌≤◌, ◌≡◌, Bool, true, false, cond, List, [], ◌∷◌, length, take, eqb, ℤ, pos}
 use Rattle.std.proofs.Math.Option.{Option, some, none}
-use Rattle.io.specs.Counts.{clamp_len}
 use Rattle.tree.specs.Shown.{lists_in}
 use Rattle.script.specs.Play.{Listed, BadAt, text_of}
 use Rattle.axs.specs.declared.End.{End}
 use Rattle.axs.specs.declared.End.TheVariants.{Whole, Bad, Failed}
 use Rattle.axs.specs.declared.Said.{Said}
+use Rattle.axs.specs.Counts.{clamp_len}
 use Rattle.axs.specs.Reads.{Read, Course, On, Over, course_of, nothing_read}
 
 -- a text, and the descriptor that it is written to: 1 is standard output, 2 standard error

@@ -1,16 +1,26 @@
 // The script program: plays the script on standard input and writes the listing, or the line that says where the script is bad.
 // Records are played as they come in, through a buffer that holds the longest one, so a script may have any length. What is made of a
-// read, and what is said in the end, are promised by an equation each; `libc::read` and `libc::write` are called in one place each, and
-// what no contract can say is that these places are reached: `read_all`, `write_all`, `say` and `main` are to be read.
+// read, and what is said in the end, are promised by an equation each; standard input is read in one place, each of the two outputs is
+// written in one, and what no contract can say is that these places are reached: `read_all`, `write_some`, `write_all`, `say` and `main`
+// are to be read.
 #![tactic(auto)]
-ghost use Rattle.std.specs.Prelude.{◌+◌, ◌-◌, ◌≤◌, ◌<◌, [], ◌≡◌, length, take, drop};
+
+ghost use Rattle.std.specs.Prelude.{◌+◌, ◌-◌, ◌≤◌, ◌<◌, [], ◌≡◌, IfOk, length, take, drop};
+ghost use Rattle.std.specs.Io.{WritesAtMost};
 ghost use Rattle.axs.specs.declared.End.TheVariants.{Failed as End-as-Failed};
+ghost use Rattle.axs.specs.Counts.{answer_of, clamp_len};
 ghost use Rattle.axs.specs.Reads.{end_at, on_head, on_records, after_read, Reached};
 ghost use Rattle.axs.specs.Speech.{speech, Spoken, RunSays, Written};
 ghost use Rattle.axs.specs.Inner.Buffered.{bound_at, read_by, stand_at, course_at, Onward, said_on, Listable};
 
-use libc::{STDERR_FILENO, STDIN_FILENO, STDOUT_FILENO};
+use std::io;
+use std::io::{Read, Stdin, Write};
 use tree::Answer;
+
+// The descriptors that a text is written to.
+const STDOUT_FILENO: i32 = 1;
+
+const STDERR_FILENO: i32 = 2;
 
 // More than the longest record, of 66,069 bytes: whatever is left of a piece, there is room for more.
 const BUFFER: usize = 66112;
@@ -100,6 +110,28 @@ fn records_in(room: &mut [u8], buffer: &mut [u8], at: u64, held: usize) -> Turn
     }
 }
 
+// What a read or a write answered, as one number: how many bytes it moved, or -1 where it failed.
+fn answered(moved: io::Result<usize>) -> isize
+    requires { IfOk moved (λ n. n < 9223372036854775808) }
+    ensures { result ≡ answer_of moved }
+{
+    match moved {
+        Ok(n) => n as isize,
+        Err(_) => -1,
+    }
+}
+
+// How many of the bytes lent a read or a write moved that answered this: none where it failed, and never more than there are.
+fn count(got: isize, lent: &[u8]) -> usize
+    ensures in_bounds { result ≤ length lent.now }
+    ensures value { result ≡ clamp_len got (length lent.now) }
+{
+    if got <= 0 {
+        return 0;
+    }
+    lent.len().min(got as usize)
+}
+
 // What a read leads to that was lent the buffer's bytes behind those that are held, up to the bound, and gave this answer.
 fn go_on(room: &mut [u8], buffer: &mut [u8], at: u64, held: usize, got: isize) -> Turn
     requires { (held < bound_at at) × ((at ≤ 9223372036854775808) × ((length buffer.old ≡ 66112) × (length room.old ≡ 55400))) }
@@ -110,7 +142,7 @@ fn go_on(room: &mut [u8], buffer: &mut [u8], at: u64, held: usize, got: isize) -
         return Turn::Over { end: End::Failed };
     }
     let most = bound(at);
-    let n = io::count(got, &buffer[held..most]);
+    let n = count(got, &buffer[held..most]);
     if n == 0 {
         return Turn::Over {
             end: end_of(at, held),
@@ -123,7 +155,7 @@ fn go_on(room: &mut [u8], buffer: &mut [u8], at: u64, held: usize, got: isize) -
 }
 
 // Reads until the run is over.
-fn read_all(room: &mut [u8], buffer: &mut [u8]) -> End
+fn read_all(mut input: Stdin, room: &mut [u8], buffer: &mut [u8]) -> End
     requires { (length buffer.old ≡ 66112) × (length room.old ≡ 55400) }
     ensures { Reached room.old result room.new }
 {
@@ -131,7 +163,7 @@ fn read_all(room: &mut [u8], buffer: &mut [u8]) -> End
     let mut held = 0;
     while at <= MOST {
         let most = bound(at);
-        let got = libc::read(STDIN_FILENO, &mut buffer[held..most]);
+        let got = answered(input.read(&mut buffer[held..most]));
         match go_on(room, buffer, at, held, got) {
             Turn::On {
                 at: next,
@@ -202,22 +234,32 @@ fn text_of(end: End, room: &[u8], out: &mut [u8]) -> Said
 }
 
 // Plays what comes in, and says what came of it.
-fn run(room: &mut [u8], buffer: &mut [u8], out: &mut [u8]) -> Said
+fn run(input: Stdin, room: &mut [u8], buffer: &mut [u8], out: &mut [u8]) -> Said
     requires { (length out.old ≡ 4096) × ((length buffer.old ≡ 66112) × (length room.old ≡ 55400)) }
     ensures { RunSays room.old result out.new }
 {
-    let end = read_all(room, buffer);
+    let end = read_all(input, room, buffer);
     text_of(end, room, out)
 }
 
+// Writes as much of a text as standard output or standard error takes at once.
+fn write_some(rt: HostRuntime, to: i32, text: &[u8]) -> io::Result<usize>
+    ensures { WritesAtMost result text.now }
+{
+    if to == STDOUT_FILENO {
+        return rt.stdout().write(text);
+    }
+    rt.stderr().write(text)
+}
+
 // Writes a text, and says whether all of it was taken.
-fn write_all(to: i32, text: &[u8]) -> bool
+fn write_all(rt: HostRuntime, to: i32, text: &[u8]) -> bool
     ensures { Written (length text.now) result }
 {
     let mut done = 0;
     while done < text.len() {
         let left = &text[done..];
-        let n = io::count(libc::write(to, left), left);
+        let n = count(answered(write_some(rt, to, left)), left);
         if n == 0 {
             return false;
         }
@@ -227,25 +269,26 @@ fn write_all(to: i32, text: &[u8]) -> bool
 }
 
 // Where standard output doesn't take the whole text, standard error says so.
-fn say(said: Said, out: &[u8])
+fn say(rt: HostRuntime, said: Said, out: &[u8])
     requires { said.length ≤ length out.now }
 {
     let n = said.length;
-    if write_all(said.to, &out[0..n]) {
+    if write_all(rt, said.to, &out[0..n]) {
         return;
     }
     if said.to == STDOUT_FILENO {
         write_all(
+            rt,
             STDERR_FILENO,
             b"axs: standard output could not be written whole\n",
         );
     }
 }
 
-fn main() {
+fn main(rt: HostRuntime) {
     let mut room = [0u8; script::ROOM];
     let mut buffer = [0u8; BUFFER];
     let mut out = [0u8; TEXT];
-    let said = run(&mut room, &mut buffer, &mut out);
-    say(said, &out);
+    let said = run(rt.stdin(), &mut room, &mut buffer, &mut out);
+    say(rt, said, &out);
 }

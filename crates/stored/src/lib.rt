@@ -1,8 +1,10 @@
-// What the program of stored cases reads and prints with: bytes in, numbers and hashes out.
+// What the program of stored cases reads and prints with: bytes in, numbers and hashes out. What standard output doesn't take is lost: the
+// line that should hold it then differs from the stored one.
 #![tactic(auto)]
+
 ghost use Rattle.std.specs.Prelude.{◌<◌};
 
-use libc::{STDIN_FILENO, STDOUT_FILENO};
+use std::io::{Print, Read, Stdin, Stdout};
 
 // What a byte of `out` holds before a call.
 const BEFORE: u8 = 0xAA;
@@ -21,20 +23,14 @@ pub fn wide(x: u8) -> u32
 }
 
 // Fills the bytes from standard input; false where it ends before.
-pub fn read(bytes: &mut [u8]) -> bool {
-    let n = bytes.len();
-    if io::read_full(STDIN_FILENO, bytes) < n {
-        return false;
-    }
-    true
+pub fn read(mut from: Stdin, bytes: &mut [u8]) -> bool {
+    from.read_exact(bytes).is_ok()
 }
 
 // Fills what is lent to a call.
 pub fn prepare(out: &mut [u8]) {
-    let mut i = 0;
-    while i < out.len() {
+    for i in 0..out.len() {
         out[i] = BEFORE;
-        i += 1;
     }
 }
 
@@ -46,79 +42,74 @@ fn times_prime(x: u32) -> u32 {
 // FNV-1a in 32 bits.
 fn hash(bytes: &[u8]) -> u32 {
     let mut h = HASH_START;
-    let mut i = 0;
-    while i < bytes.len() {
-        h = times_prime(h ^ wide(bytes[i]));
-        i += 1;
+    for x in bytes {
+        h = times_prime(h ^ wide(*x));
     }
     h
 }
 
-pub fn print_word(x: u32) {
-    io::print_decimal(STDOUT_FILENO, x as u64);
+pub fn print_word(to: Stdout, x: u32) {
+    let _ = print!(to; "{x}");
 }
 
-pub fn print_size(x: usize) {
-    io::print_decimal(STDOUT_FILENO, x as u64);
+pub fn print_size(to: Stdout, x: usize) {
+    let _ = print!(to; "{x}");
 }
 
-pub fn print_space() {
-    io::write_all(STDOUT_FILENO, b" ");
+pub fn print_space(to: Stdout) {
+    print_text(to, b" ");
 }
 
-pub fn end_line() {
-    io::write_all(STDOUT_FILENO, b"\n");
+pub fn end_line(to: Stdout) {
+    print_text(to, b"\n");
 }
 
-pub fn print_text(text: &[u8]) {
-    io::write_all(STDOUT_FILENO, text);
+pub fn print_text(to: Stdout, text: &[u8]) {
+    let _ = to.write_all(text);
 }
 
-pub fn print_hash(bytes: &[u8]) {
-    io::print_hex(STDOUT_FILENO, hash(bytes) as u64, 8);
+pub fn print_hash(to: Stdout, bytes: &[u8]) {
+    let h = hash(bytes);
+    let _ = print!(to; "{h:08x}");
 }
 
-fn print_byte(x: u8) {
-    io::print_hex(STDOUT_FILENO, x as u64, 2);
+fn print_byte(to: Stdout, x: u8) {
+    let _ = print!(to; "{x:02x}");
 }
 
 // Two digits for each byte.
-pub fn print_bytes(bytes: &[u8]) {
-    let mut i = 0;
-    while i < bytes.len() {
-        print_byte(bytes[i]);
-        i += 1;
+pub fn print_bytes(to: Stdout, bytes: &[u8]) {
+    for x in bytes {
+        print_byte(to, *x);
     }
 }
 
 // The values, with a space between them.
-fn print_each(values: &[u32]) {
-    let mut i = 0;
-    while i < values.len() {
+fn print_each(to: Stdout, values: &[u32]) {
+    for i in 0..values.len() {
         if 0 < i {
-            print_space();
+            print_space(to);
         }
-        print_word(values[i]);
-        i += 1;
+        print_word(to, values[i]);
     }
 }
 
 // The answer's first n values, with a space between them; nothing where n is over 8.
-pub fn print_values(answer: [u32; 8], n: usize) {
+pub fn print_values(to: Stdout, answer: [u32; 8], n: usize) {
     if n <= 8 {
-        print_each(&answer[0..n]);
+        print_each(to, &answer[0..n]);
     }
 }
 
 // The call's byte and the eight values, with a space between them.
-pub fn print_answer(call: u8, answer: [u32; 8]) {
-    print_word(wide(call));
-    print_space();
-    print_values(answer, 8);
+pub fn print_answer(to: Stdout, call: u8, answer: [u32; 8]) {
+    print_word(to, wide(call));
+    print_space(to);
+    print_values(to, answer, 8);
 }
 
 // The input holds no case.
-pub fn bad() -> bool {
-    io::write_all(STDOUT_FILENO, b"bad\n");
+pub fn bad(to: Stdout) -> bool {
+    print_text(to, b"bad\n");
     false
 }

@@ -1,9 +1,10 @@
 // The area that a case is read into, from its first byte on.
 use octets::{half_in, part_of, word_in};
+use std::io::Stdin;
 use stored::read;
 
 // Reads n bytes to a place of the area; false where it ends before them or the input does.
-pub(crate) fn read_to(area: &mut [u8], at: usize, n: usize) -> bool {
+pub(crate) fn read_to(from: Stdin, area: &mut [u8], at: usize, n: usize) -> bool {
     if area.len() < at {
         return false;
     }
@@ -11,28 +12,28 @@ pub(crate) fn read_to(area: &mut [u8], at: usize, n: usize) -> bool {
         return false;
     }
     let end = at + n;
-    read(&mut area[at..end])
+    read(from, &mut area[at..end])
 }
 
 // The same where n is at most so many.
-pub(crate) fn read_part(area: &mut [u8], at: usize, n: usize, most: usize) -> bool {
+pub(crate) fn read_part(from: Stdin, area: &mut [u8], at: usize, n: usize, most: usize) -> bool {
     if most < n {
         return false;
     }
-    read_to(area, at, n)
+    read_to(from, area, at, n)
 }
 
 // Of a script or a text: its length in 32 bits behind the kind, the length of `out` in 16, then its bytes. Reads it; false where it is longer than
 // `most` or the input ends.
-pub(crate) fn read_sized(area: &mut [u8], most: usize) -> bool {
-    if !read_to(area, 1, 6) {
+pub(crate) fn read_sized(from: Stdin, area: &mut [u8], most: usize) -> bool {
+    if !read_to(from, area, 1, 6) {
         return false;
     }
     let n = word_in(area, 1) as usize;
     if most < n {
         return false;
     }
-    read_to(area, 7, n)
+    read_to(from, area, 7, n)
 }
 
 pub(crate) fn sized(area: &[u8]) -> &[u8] {

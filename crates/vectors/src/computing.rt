@@ -2,6 +2,7 @@
 // mapping, the lengths of parent, creator, default, types, owner and group, and the room; then the bytes of those six.
 use crate::area::read_to;
 use octets::{part_of, word_in};
+use std::io::{Stdin, Stdout};
 use stored::{end_line, print_bytes, print_space, print_values, print_word, wide};
 
 const MOST_LIST: usize = 66000;
@@ -35,63 +36,59 @@ fn before(i: usize) -> u8 {
 }
 
 fn prepare(out: &mut [u8]) {
-    let mut i = 0;
-    while i < out.len() {
+    for i in 0..out.len() {
         out[i] = before(i);
-        i += 1;
     }
 }
 
 // Two running sums, so that the order of the bytes counts too.
-fn print_sum(bytes: &[u8]) {
+fn print_sum(to: Stdout, bytes: &[u8]) {
     let mut a = 1u32;
     let mut b = 0u32;
-    let mut i = 0;
-    while i < bytes.len() {
-        a = (a + wide(bytes[i])) % SUM_BASE;
+    for x in bytes {
+        a = (a + wide(*x)) % SUM_BASE;
         b = (b + a) % SUM_BASE;
-        i += 1;
     }
-    print_word(a);
-    print_space();
-    print_word(b);
+    print_word(to, a);
+    print_space(to);
+    print_word(to, b);
 }
 
-fn print_result(out: &[u8]) {
+fn print_result(to: Stdout, out: &[u8]) {
     if out.len() <= MOST_PRINTED {
-        print_bytes(out);
+        print_bytes(to, out);
         return;
     }
-    print_sum(out);
+    print_sum(to, out);
 }
 
 // Reads the part whose length is at that offset; false where it's over its limit or the input ends.
-fn fill(area: &mut [u8], at: usize, place: usize, most: usize) -> bool {
+fn fill(from: Stdin, area: &mut [u8], at: usize, place: usize, most: usize) -> bool {
     let n = word_in(area, at) as usize;
     if most < n {
         return false;
     }
-    read_to(area, place, n)
+    read_to(from, area, place, n)
 }
 
-fn fill_lists(area: &mut [u8]) -> bool {
-    if !fill(area, 28, PARENT, MOST_LIST) {
+fn fill_lists(from: Stdin, area: &mut [u8]) -> bool {
+    if !fill(from, area, 28, PARENT, MOST_LIST) {
         return false;
     }
-    if !fill(area, 32, CREATOR, MOST_LIST) {
+    if !fill(from, area, 32, CREATOR, MOST_LIST) {
         return false;
     }
-    fill(area, 36, DEFAULT, MOST_LIST)
+    fill(from, area, 36, DEFAULT, MOST_LIST)
 }
 
-fn fill_rest(area: &mut [u8]) -> bool {
-    if !fill(area, 40, TYPES, MOST_PART) {
+fn fill_rest(from: Stdin, area: &mut [u8]) -> bool {
+    if !fill(from, area, 40, TYPES, MOST_PART) {
         return false;
     }
-    if !fill(area, 44, OWNER, MOST_PART) {
+    if !fill(from, area, 44, OWNER, MOST_PART) {
         return false;
     }
-    fill(area, 48, GROUP, MOST_PART)
+    fill(from, area, 48, GROUP, MOST_PART)
 }
 
 // The part that `fill` read.
@@ -121,37 +118,37 @@ fn compute(area: &[u8], out: &mut [u8], answer: &mut [u32; 8]) {
     );
 }
 
-fn run_compute(area: &[u8], out: &mut [u8]) {
+fn run_compute(to: Stdout, area: &[u8], out: &mut [u8]) {
     let mut answer = [0u32; 8];
     prepare(out);
     compute(area, out, &mut answer);
-    print_values(answer, 7);
-    print_space();
-    print_result(out);
-    end_line();
+    print_values(to, answer, 7);
+    print_space(to);
+    print_result(to, out);
+    end_line(to);
 }
 
 // False where the room is over its limit.
-fn run_filled(area: &[u8]) -> bool {
+fn run_filled(to: Stdout, area: &[u8]) -> bool {
     let room = word_in(area, 52) as usize;
     if MOST_LIST < room {
         return false;
     }
     let mut out = [0u8; MOST_LIST];
-    run_compute(area, &mut out[0..room]);
+    run_compute(to, area, &mut out[0..room]);
     true
 }
 
 // Reads the rest of a case and runs it; false where a length is over its limit or the input ends.
-pub(crate) fn run(area: &mut [u8]) -> bool {
-    if !read_to(area, 1, 55) {
+pub(crate) fn run(from: Stdin, to: Stdout, area: &mut [u8]) -> bool {
+    if !read_to(from, area, 1, 55) {
         return false;
     }
-    if !fill_lists(area) {
+    if !fill_lists(from, area) {
         return false;
     }
-    if !fill_rest(area) {
+    if !fill_rest(from, area) {
         return false;
     }
-    run_filled(area)
+    run_filled(to, area)
 }

@@ -1,14 +1,15 @@
 // Reading. A case: its kind (1 read a list, 2 identity), a zero byte, the row's length in 16 bits, the payload's length in 32, the payload.
 use crate::area::read_to;
 use octets::{half_in, part_of, word_in};
+use std::io::{Stdin, Stdout};
 use stored::{end_line, print_bytes, print_size, print_space, print_values, print_word};
 
 const MOST_PAYLOAD: usize = 66000;
 
 const MOST_ROW: usize = 4200;
 
-fn print_half(x: u16) {
-    print_word(x as u32);
+fn print_half(to: Stdout, x: u16) {
+    print_word(to, x as u32);
 }
 
 // What element i of the row holds before a call: 65535 - i.
@@ -20,38 +21,34 @@ fn before(i: usize) -> u16 {
 }
 
 fn prepare(row: &mut [u16]) {
-    let mut i = 0;
-    while i < row.len() {
+    for i in 0..row.len() {
         row[i] = before(i);
-        i += 1;
     }
 }
 
-fn print_row(row: &[u16]) {
-    let mut i = 0;
-    while i < row.len() {
-        print_space();
-        print_half(row[i]);
-        i += 1;
+fn print_row(to: Stdout, row: &[u16]) {
+    for x in row {
+        print_space(to);
+        print_half(to, *x);
     }
 }
 
-fn run_read(list: &[u8], row: &mut [u16]) {
+fn run_read(to: Stdout, list: &[u8], row: &mut [u16]) {
     let mut answer = [0u32; 8];
     prepare(row);
     capi::pt_read(list, row, &mut answer);
-    print_values(answer, 8);
-    print_row(row);
-    end_line();
+    print_values(to, answer, 8);
+    print_row(to, row);
+    end_line(to);
 }
 
 // False where the row is over its limit.
-fn run_list(list: &[u8], m: usize) -> bool {
+fn run_list(to: Stdout, list: &[u8], m: usize) -> bool {
     if MOST_ROW < m {
         return false;
     }
     let mut row = [0u16; MOST_ROW];
-    run_read(list, &mut row[0..m]);
+    run_read(to, list, &mut row[0..m]);
     true
 }
 
@@ -64,32 +61,32 @@ fn agrees(number: u32, ok: bool, kind: u8) -> bool {
 }
 
 // False where two functions tell differently of an identity.
-fn run_identity(bytes: &[u8]) -> bool {
+fn run_identity(to: Stdout, bytes: &[u8]) -> bool {
     let number = capi::pt_identity(bytes);
     let made = list::Sid::from_bytes(bytes);
     let ok = made.ok;
     let sid = made.sid;
     let len = sid.len;
     let buffer = sid.bytes;
-    print_word(number);
-    print_space();
-    print_size(len);
-    print_space();
-    print_bytes(&buffer);
-    end_line();
+    print_word(to, number);
+    print_space(to);
+    print_size(to, len);
+    print_space(to);
+    print_bytes(to, &buffer);
+    end_line(to);
     agrees(number, ok, sid.placeholder())
 }
 
-fn run_payload(kind: u8, m: usize, payload: &[u8]) -> bool {
+fn run_payload(to: Stdout, kind: u8, m: usize, payload: &[u8]) -> bool {
     if kind == 2 {
-        return run_identity(payload);
+        return run_identity(to, payload);
     }
-    run_list(payload, m)
+    run_list(to, payload, m)
 }
 
 // Reads the rest of a case and runs it; false where a length is over its limit or the input ends.
-pub(crate) fn run(kind: u8, area: &mut [u8]) -> bool {
-    if !read_to(area, 1, 7) {
+pub(crate) fn run(from: Stdin, to: Stdout, kind: u8, area: &mut [u8]) -> bool {
+    if !read_to(from, area, 1, 7) {
         return false;
     }
     let m = half_in(area, 2) as usize;
@@ -97,8 +94,8 @@ pub(crate) fn run(kind: u8, area: &mut [u8]) -> bool {
     if MOST_PAYLOAD < n {
         return false;
     }
-    if !read_to(area, 8, n) {
+    if !read_to(from, area, 8, n) {
         return false;
     }
-    run_payload(kind, m, part_of(area, 8, n))
+    run_payload(to, kind, m, part_of(area, 8, n))
 }

@@ -3,6 +3,7 @@
 // who may open, a walk and expressions, 20 conditions typed as text, 21 two lists side by side.
 // All numbers have their lowest byte first. The byte 0 ends the input; for one that holds no case, `bad` is written.
 #![tactic(auto)]
+
 mod area;
 mod computing;
 mod lists;
@@ -14,6 +15,7 @@ mod trees;
 
 use area::read_to;
 use octets::byte_in;
+use std::io::{Stdin, Stdout};
 use stored::bad;
 
 // The longest case is that of the computation with all its parts.
@@ -22,39 +24,49 @@ const MOST_CASE: usize = 198656;
 const MOST_ROOM: usize = 220000;
 
 // Runs a case whose kind is read; false where there is no such case.
-fn run(kind: u8, area: &mut [u8], room: &mut [u8], lent: &mut usize) -> bool {
+fn run(
+    from: Stdin,
+    to: Stdout,
+    kind: u8,
+    area: &mut [u8],
+    room: &mut [u8],
+    lent: &mut usize,
+) -> bool {
     match kind {
-        1 | 2 => lists::run(kind, area),
-        3 => computing::run(area),
-        15 => scripts::run(area),
-        16 | 17 | 18 | 19 => openings::run(kind, area),
-        20 => texts::run(area),
-        21 => pairs::run(area),
-        _ => trees::run(kind, area, room, lent),
+        1 | 2 => lists::run(from, to, kind, area),
+        3 => computing::run(from, to, area),
+        15 => scripts::run(from, to, area),
+        16 | 17 | 18 | 19 => openings::run(from, to, kind, area),
+        20 => texts::run(from, to, area),
+        21 => pairs::run(from, to, area),
+        _ => trees::run(from, to, kind, area, room, lent),
     }
 }
 
 // The next case, or false at the end and where the input holds no case.
-fn run_next(area: &mut [u8], room: &mut [u8], lent: &mut usize) -> bool {
-    if !read_to(area, 0, 1) {
-        return bad();
+fn run_next(from: Stdin, to: Stdout, area: &mut [u8], room: &mut [u8], lent: &mut usize) -> bool {
+    if !read_to(from, area, 0, 1) {
+        return bad(to);
     }
     let kind = byte_in(area, 0);
     if kind == 0 {
         return false;
     }
-    if !run(kind, area, room, lent) {
-        return bad();
+    if !run(from, to, kind, area, room, lent) {
+        return bad(to);
     }
     true
 }
 
-fn main() {
+fn main(rt: HostRuntime) {
+    let from = rt.stdin();
+    let to = rt.stdout();
     let mut area = [0u8; MOST_CASE];
     let mut room = [0u8; MOST_ROOM];
     let mut lent = 0usize;
-    let mut turns = u32::MAX;
-    while 0 < turns && run_next(&mut area, &mut room, &mut lent) {
-        turns -= 1;
+    for _ in 0..u32::MAX {
+        if !run_next(from, to, &mut area, &mut room, &mut lent) {
+            return;
+        }
     }
 }

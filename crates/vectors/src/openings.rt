@@ -6,6 +6,7 @@ use crate::area::{read_part, read_to};
 use access::Found;
 use list::guid_at;
 use octets::{part_of, word_in};
+use std::io::{Stdin, Stdout};
 use stored::{end_line, print_space, print_values};
 
 const MOST_LIST: usize = 66000;
@@ -31,7 +32,7 @@ const TABLE: usize = 66012;
 
 const MOST_TABLE: usize = 8000;
 
-fn run_open(area: &[u8]) {
+fn run_open(to: Stdout, area: &[u8]) {
     let mut answer = [0u32; 8];
     let guid = guid_at(area, 20);
     capi::pt_may_open(
@@ -42,11 +43,11 @@ fn run_open(area: &[u8]) {
         word_in(area, 16),
         &mut answer,
     );
-    print_values(answer, 8);
-    end_line();
+    print_values(to, answer, 8);
+    end_line(to);
 }
 
-fn run_open_with(area: &[u8]) {
+fn run_open_with(to: Stdout, area: &[u8]) {
     let mut answer = [0u32; 8];
     let guid = guid_at(area, 24);
     capi::pt_may_open_with(
@@ -58,63 +59,69 @@ fn run_open_with(area: &[u8]) {
         part_of(area, TABLE_WITH, word_in(area, 16) as usize),
         &mut answer,
     );
-    print_values(answer, 8);
-    end_line();
+    print_values(to, answer, 8);
+    end_line(to);
 }
 
-fn run_evaluate(area: &[u8]) {
+fn run_evaluate(to: Stdout, area: &[u8]) {
     let mut answer = [0u32; 8];
     capi::pt_evaluate(
         part_of(area, WALKED, word_in(area, 4) as usize),
         part_of(area, TABLE, word_in(area, 8) as usize),
         &mut answer,
     );
-    print_values(answer, 8);
-    end_line();
+    print_values(to, answer, 8);
+    end_line(to);
 }
 
-fn open(area: &mut [u8]) -> bool {
-    if !read_to(area, 1, 35) {
+fn open(from: Stdin, to: Stdout, area: &mut [u8]) -> bool {
+    if !read_to(from, area, 1, 35) {
         return false;
     }
-    if !read_part(area, LIST, word_in(area, 8) as usize, MOST_LIST) {
+    if !read_part(from, area, LIST, word_in(area, 8) as usize, MOST_LIST) {
         return false;
     }
-    if !read_part(area, HELD, word_in(area, 12) as usize, MOST_HELD) {
+    if !read_part(from, area, HELD, word_in(area, 12) as usize, MOST_HELD) {
         return false;
     }
-    run_open(area);
+    run_open(to, area);
     true
 }
 
-fn open_with(area: &mut [u8]) -> bool {
-    if !read_to(area, 1, 39) {
+fn open_with(from: Stdin, to: Stdout, area: &mut [u8]) -> bool {
+    if !read_to(from, area, 1, 39) {
         return false;
     }
-    if !read_part(area, LIST_WITH, word_in(area, 8) as usize, MOST_LIST) {
+    if !read_part(from, area, LIST_WITH, word_in(area, 8) as usize, MOST_LIST) {
         return false;
     }
-    if !read_part(area, HELD_WITH, word_in(area, 12) as usize, MOST_HELD) {
+    if !read_part(from, area, HELD_WITH, word_in(area, 12) as usize, MOST_HELD) {
         return false;
     }
-    if !read_part(area, TABLE_WITH, word_in(area, 16) as usize, MOST_TABLE) {
+    if !read_part(
+        from,
+        area,
+        TABLE_WITH,
+        word_in(area, 16) as usize,
+        MOST_TABLE,
+    ) {
         return false;
     }
-    run_open_with(area);
+    run_open_with(to, area);
     true
 }
 
-fn evaluate(area: &mut [u8]) -> bool {
-    if !read_to(area, 1, 11) {
+fn evaluate(from: Stdin, to: Stdout, area: &mut [u8]) -> bool {
+    if !read_to(from, area, 1, 11) {
         return false;
     }
-    if !read_part(area, WALKED, word_in(area, 4) as usize, MOST_LIST) {
+    if !read_part(from, area, WALKED, word_in(area, 4) as usize, MOST_LIST) {
         return false;
     }
-    if !read_part(area, TABLE, word_in(area, 8) as usize, MOST_TABLE) {
+    if !read_part(from, area, TABLE, word_in(area, 8) as usize, MOST_TABLE) {
         return false;
     }
-    run_evaluate(area);
+    run_evaluate(to, area);
     true
 }
 
@@ -143,14 +150,14 @@ fn goes_past(list: &[u8], answer: [u32; 8], entry: [u32; 8]) -> bool {
 }
 
 // False where the walker and the call tell differently of the entry, or of the first one.
-fn run_step(list: &[u8], place: u32) -> bool {
+fn run_step(to: Stdout, list: &[u8], place: u32) -> bool {
     let mut answer = [0u32; 8];
     let mut entry = [0u32; 8];
     capi::pt_step(list, place, &mut entry, &mut answer);
-    print_values(answer, 8);
-    print_space();
-    print_values(entry, 8);
-    end_line();
+    print_values(to, answer, 8);
+    print_space(to);
+    print_values(to, entry, 8);
+    end_line(to);
     if !goes_past(list, answer, entry) {
         return false;
     }
@@ -160,23 +167,23 @@ fn run_step(list: &[u8], place: u32) -> bool {
     agrees(access::first(list), answer, entry)
 }
 
-fn step(area: &mut [u8]) -> bool {
-    if !read_to(area, 1, 11) {
+fn step(from: Stdin, to: Stdout, area: &mut [u8]) -> bool {
+    if !read_to(from, area, 1, 11) {
         return false;
     }
     let n = word_in(area, 4) as usize;
-    if !read_part(area, WALKED, n, MOST_LIST) {
+    if !read_part(from, area, WALKED, n, MOST_LIST) {
         return false;
     }
-    run_step(part_of(area, WALKED, n), word_in(area, 8))
+    run_step(to, part_of(area, WALKED, n), word_in(area, 8))
 }
 
 // Reads the rest of a case and runs it; false where a length is over its limit, the input ends, or two functions tell differently.
-pub(crate) fn run(kind: u8, area: &mut [u8]) -> bool {
+pub(crate) fn run(from: Stdin, to: Stdout, kind: u8, area: &mut [u8]) -> bool {
     match kind {
-        16 => open(area),
-        18 => evaluate(area),
-        19 => open_with(area),
-        _ => step(area),
+        16 => open(from, to, area),
+        18 => evaluate(from, to, area),
+        19 => open_with(from, to, area),
+        _ => step(from, to, area),
     }
 }

@@ -1,6 +1,7 @@
 // Two lists side by side. A case: its kind (21), the lengths of both lists in 32 bits, the row's in 16, then the first list and the second.
 use crate::area::{read_part, read_to};
 use octets::{half_in, part_of, word_in};
+use std::io::{Stdin, Stdout};
 use stored::{end_line, print_answer, print_space, print_word};
 
 const MOST_LIST: usize = 66000;
@@ -21,23 +22,19 @@ fn before(i: usize) -> u32 {
 }
 
 fn prepare(row: &mut [u32]) {
-    let mut i = 0;
-    while i < row.len() {
+    for i in 0..row.len() {
         row[i] = before(i);
-        i += 1;
     }
 }
 
-fn print_row(row: &[u32]) {
-    let mut i = 0;
-    while i < row.len() {
-        print_space();
-        print_word(row[i]);
-        i += 1;
+fn print_row(to: Stdout, row: &[u32]) {
+    for x in row {
+        print_space(to);
+        print_word(to, *x);
     }
 }
 
-fn compare(area: &[u8], row: &mut [u32]) {
+fn compare(to: Stdout, area: &[u8], row: &mut [u32]) {
     let mut answer = [0u32; 8];
     prepare(row);
     capi::pt_compare(
@@ -46,31 +43,31 @@ fn compare(area: &[u8], row: &mut [u32]) {
         row,
         &mut answer,
     );
-    print_answer(21, answer);
-    print_row(row);
-    end_line();
+    print_answer(to, 21, answer);
+    print_row(to, row);
+    end_line(to);
 }
 
 // False where the row is over its limit.
-fn run_pair(area: &[u8], m: usize) -> bool {
+fn run_pair(to: Stdout, area: &[u8], m: usize) -> bool {
     if MOST_ROW < m {
         return false;
     }
     let mut row = [0u32; MOST_ROW];
-    compare(area, &mut row[0..m]);
+    compare(to, area, &mut row[0..m]);
     true
 }
 
 // Reads the rest of a case and runs it; false where a length is over its limit or the input ends.
-pub(crate) fn run(area: &mut [u8]) -> bool {
-    if !read_to(area, 1, 10) {
+pub(crate) fn run(from: Stdin, to: Stdout, area: &mut [u8]) -> bool {
+    if !read_to(from, area, 1, 10) {
         return false;
     }
-    if !read_part(area, FIRST, word_in(area, 1) as usize, MOST_LIST) {
+    if !read_part(from, area, FIRST, word_in(area, 1) as usize, MOST_LIST) {
         return false;
     }
-    if !read_part(area, SECOND, word_in(area, 5) as usize, MOST_LIST) {
+    if !read_part(from, area, SECOND, word_in(area, 5) as usize, MOST_LIST) {
         return false;
     }
-    run_pair(area, half_in(area, 9) as usize)
+    run_pair(to, area, half_in(area, 9) as usize)
 }

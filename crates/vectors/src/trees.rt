@@ -6,6 +6,7 @@
 use crate::area::read_to;
 use list::guid_at;
 use octets::{half_in, part_of, word_in};
+use std::io::{Stdin, Stdout};
 use stored::{end_line, prepare, print_answer, print_hash, print_size, print_space, print_word};
 
 const MOST_OUT: usize = 1100;
@@ -40,32 +41,32 @@ fn head_size(call: u8) -> usize {
 }
 
 // Reads a string after its length; false where it's over its limit or the input ends.
-fn read_string(area: &mut [u8], length_at: usize, at: usize, most: usize) -> bool {
-    if !read_to(area, length_at, 2) {
+fn read_string(from: Stdin, area: &mut [u8], length_at: usize, at: usize, most: usize) -> bool {
+    if !read_to(from, area, length_at, 2) {
         return false;
     }
     let n = half_in(area, length_at) as usize;
     if most < n {
         return false;
     }
-    read_to(area, at, n)
+    read_to(from, area, at, n)
 }
 
-fn read_names(call: u8, area: &mut [u8]) -> bool {
+fn read_names(from: Stdin, call: u8, area: &mut [u8]) -> bool {
     if call != 5 && call != 8 {
         return true;
     }
-    if !read_string(area, OWNER_LENGTH, OWNER, MOST_NAME) {
+    if !read_string(from, area, OWNER_LENGTH, OWNER, MOST_NAME) {
         return false;
     }
-    read_string(area, GROUP_LENGTH, GROUP, MOST_NAME)
+    read_string(from, area, GROUP_LENGTH, GROUP, MOST_NAME)
 }
 
-fn read_list(call: u8, area: &mut [u8]) -> bool {
+fn read_list(from: Stdin, call: u8, area: &mut [u8]) -> bool {
     if call < 4 || 6 < call {
         return true;
     }
-    read_string(area, LIST_LENGTH, LIST, MOST_LIST)
+    read_string(from, area, LIST_LENGTH, LIST, MOST_LIST)
 }
 
 // The string that `read_string` read.
@@ -113,7 +114,7 @@ fn length_after(answer: [u32; 8], own: usize, earlier: usize) -> usize {
 }
 
 // False where the room's length is over its limit.
-fn run_start(area: &[u8], room: &mut [u8], lent: &mut usize) -> bool {
+fn run_start(to: Stdout, area: &[u8], room: &mut [u8], lent: &mut usize) -> bool {
     let n = word_in(area, 1) as usize;
     if room.len() < n {
         return false;
@@ -121,8 +122,8 @@ fn run_start(area: &[u8], room: &mut [u8], lent: &mut usize) -> bool {
     let mut answer = [0u32; 8];
     start(area, &mut room[0..n], &mut answer);
     *lent = length_after(answer, n, *lent);
-    print_answer(4, answer);
-    end_line();
+    print_answer(to, 4, answer);
+    end_line(to);
     true
 }
 
@@ -170,11 +171,11 @@ fn change(call: u8, area: &[u8], room: &mut [u8], answer: &mut [u32; 8]) {
     }
 }
 
-fn run_change(call: u8, area: &[u8], room: &mut [u8]) -> bool {
+fn run_change(to: Stdout, call: u8, area: &[u8], room: &mut [u8]) -> bool {
     let mut answer = [0u32; 8];
     change(call, area, room, &mut answer);
-    print_answer(call, answer);
-    end_line();
+    print_answer(to, call, answer);
+    end_line(to);
     true
 }
 
@@ -186,67 +187,74 @@ fn read_back(call: u8, object: u32, room: &[u8], out: &mut [u8], answer: &mut [u
     }
 }
 
-fn run_lent(call: u8, object: u32, room: &[u8], out: &mut [u8]) {
+fn run_lent(to: Stdout, call: u8, object: u32, room: &[u8], out: &mut [u8]) {
     let mut answer = [0u32; 8];
     prepare(out);
     read_back(call, object, room, out, &mut answer);
-    print_answer(call, answer);
-    print_space();
-    print_hash(out);
-    end_line();
+    print_answer(to, call, answer);
+    print_space(to);
+    print_hash(to, out);
+    end_line(to);
 }
 
 // False where the length of `out` is over its limit.
-fn run_read(call: u8, area: &[u8], room: &[u8]) -> bool {
+fn run_read(to: Stdout, call: u8, area: &[u8], room: &[u8]) -> bool {
     let m = half_in(area, 5) as usize;
     if MOST_OUT < m {
         return false;
     }
     let mut out = [0u8; MOST_OUT];
-    run_lent(call, word_in(area, 1), room, &mut out[0..m]);
+    run_lent(to, call, word_in(area, 1), room, &mut out[0..m]);
     true
 }
 
-fn run_room(area: &[u8]) -> bool {
-    print_word(14);
-    print_space();
-    print_size(capi::pt_room(word_in(area, 1), word_in(area, 5)));
-    end_line();
+fn run_room(to: Stdout, area: &[u8]) -> bool {
+    print_word(to, 14);
+    print_space(to);
+    print_size(to, capi::pt_room(word_in(area, 1), word_in(area, 5)));
+    end_line(to);
     true
 }
 
 // A call other than start, on the room that it's lent; false where there is no such call.
-fn run_other(call: u8, area: &[u8], room: &mut [u8]) -> bool {
+fn run_other(to: Stdout, call: u8, area: &[u8], room: &mut [u8]) -> bool {
     match call {
-        5..=9 | 13 => run_change(call, area, room),
-        10..=12 => run_read(call, area, room),
-        14 => run_room(area),
+        5..=9 | 13 => run_change(to, call, area, room),
+        10..=12 => run_read(to, call, area, room),
+        14 => run_room(to, area),
         _ => false,
     }
 }
 
 // A call whose parts are all read.
-fn run_call(call: u8, area: &[u8], room: &mut [u8], lent: &mut usize) -> bool {
+fn run_call(to: Stdout, call: u8, area: &[u8], room: &mut [u8], lent: &mut usize) -> bool {
     if call == 4 {
-        return run_start(area, room, lent);
+        return run_start(to, area, room, lent);
     }
     let n = *lent;
     if room.len() < n {
         return false;
     }
-    run_other(call, area, &mut room[0..n])
+    run_other(to, call, area, &mut room[0..n])
 }
 
 // Reads the rest of a call and runs it; false where it's no call, a length is over its limit or the input ends.
-pub(crate) fn run(call: u8, area: &mut [u8], room: &mut [u8], lent: &mut usize) -> bool {
-    if !read_to(area, 1, head_size(call)) {
+pub(crate) fn run(
+    from: Stdin,
+    to: Stdout,
+    call: u8,
+    area: &mut [u8],
+    room: &mut [u8],
+    lent: &mut usize,
+) -> bool {
+    if !read_to(from, area, 1, head_size(call)) {
         return false;
     }
-    if !read_names(call, area) {
+    if !read_names(from, call, area) {
         return false;
     }
-    if !read_list(call, area) {
+    if !read_list(from, call, area) {
         return false;
     }
-    run_call(call, area, room, lent)
+    run_call(to, call, area, room, lent)
 }
