@@ -16,7 +16,7 @@ use Rattle.octets.proofs.Tests.{both_true}
 use Rattle.octets.proofs.Writes.{front-all}
 use Rattle.inherit.specs.Compute.{rule_ok}
 use Rattle.tree.specs.Model.{Object, Tree, list_of, objects_of, begun as begun-tree, after, accepted, short_if, limits_ok}
-use Rattle.tree.specs.Shown.{Request, settings_from, meant, lists_in, call_on, played_on}
+use Rattle.tree.specs.Shown.{Request, settings_from, meant, lists_in, played_on}
 use Rattle.tree.specs.declared.Answer.{Answer}
 use Rattle.tree.specs.Room.{empty_room}
 use Rattle.tree.specs.Formed.{formed}

@@ -5,7 +5,7 @@ use mathlib.Core.List.{List, [], ◌∷◌, ◌++◌, flatten}
 use mathlib.Core.Option.{some, none}
 use Prim.Native.Nat.{ℕ}
 use native.Mathlib.Omega.{arith}
-use lib.ListN.{length, get_or, drop, replicate}
+use lib.ListN.{length, get_or, replicate}
 use Rattle.list.specs.List.{MaybeList}
 use Rattle.octets.specs.Bytes.{le, part, guid_at}
 use Rattle.octets.specs.Order.{need}
@@ -21,7 +21,7 @@ use Rattle.script.specs.declared.records.Found.TheVariants.{Cut, Bad, Record}
 use Rattle.script.specs.Record.{name_end, list_end, parent_named, record_size, form_ok, record_asks, step_of}
 use Rattle.script.specs.Fold.{past, on_step, run_by, run_of, on_call, calls_by, calls_of, all_pieces}
 use Rattle.script.specs.Text.{digits, decimal, columns_by, columns, line, lines, heading, listing, bad_line}
-use Rattle.script.specs.Play.{mapping, began, script_head_ok, Listed, BadAt, ending_after, fresh, ending_of, text_of, ending_answer, text_to, listing_to}
+use Rattle.script.specs.Play.{began, script_head_ok, Listed, BadAt, ending_after, fresh, ending_of, text_of, ending_answer, text_to, listing_to}
 use Rattle.script.proofs.Plays.{tree_of, listed-afresh}
 
 -- ---- records

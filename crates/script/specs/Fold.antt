@@ -1,7 +1,6 @@
 -- Records one after another, from the front of t, in a room. What a run has made of them is the fold of `step_of`.
 use Rattle.std.specs.Prelude.{ℕ, zero, suc, ◌+◌, List, [], ◌∷◌, ◌++◌, Bool, true, false, cond, length, take, drop}
 use Rattle.tree.specs.Shown.{Request, call_on}
-use Rattle.tree.specs.Calls.{ChangeGiven}
 use Rattle.script.specs.declared.records.Found.{Found}
 use Rattle.script.specs.declared.records.Found.TheVariants.{Cut, Bad, Record}
 use Rattle.script.specs.Record.{record_asks, step_of}

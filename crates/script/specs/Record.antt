@@ -3,7 +3,7 @@ use Rattle.std.specs.Prelude.{ℕ, ◌+◌, List, Bool, true, cond, not, ◌&&�
 use Rattle.list.specs.List.{MaybeList, lent}
 use Rattle.octets.specs.Bytes.{le, part, guid_at}
 use Rattle.tree.specs.Shown.{Request, change, undo}
-use Rattle.tree.specs.Calls.{list, mark, owners, New, nobody, ChangeGiven, add, alter}
+use Rattle.tree.specs.Calls.{list, mark, owners, New, nobody, add, alter}
 use Rattle.script.specs.declared.records.Found.{Found}
 use Rattle.script.specs.declared.records.Found.TheVariants.{Cut, Bad, Record}
 

@@ -1,7 +1,6 @@
 -- The program's text (RULES 6.3, 6.6), in ASCII: the listing, or the line that says where a script is bad.
-use Rattle.std.specs.Prelude.{ℕ, zero, suc, ◌+◌, ◌/◌, ◌%◌, List, [], ◌∷◌, ◌++◌, Bool, true, false, cond, length, get_or, take, drop, ltb}
+use Rattle.std.specs.Prelude.{ℕ, zero, suc, ◌+◌, ◌/◌, ◌%◌, List, [], ◌∷◌, ◌++◌, Bool, true, false, cond, length, get_or, ltb}
 use Rattle.std.proofs.Math.Option.{none, some}
-use Rattle.octets.specs.Bytes.{put_on}
 use Rattle.list.specs.List.{count_of, MaybeList}
 
 -- n in decimal, with no zeros in front: all digits but the last, if there are more, then the last

@@ -1,5 +1,6 @@
 // Plays scripts on a tree of objects: one record, records one after another, the listing's text, a whole script.
 #![tactic(auto)]
+
 ghost use Rattle.std.specs.Prelude.{◌≡◌, length};
 ghost use Rattle.tree.specs.Calls.{Promised};
 ghost use Rattle.script.specs.Play.{script_head_ok, begin_to, play_to};

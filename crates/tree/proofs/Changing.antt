@@ -22,7 +22,7 @@ use Rattle.tree.specs.Room.{object_limit, objects, kept_steps, own_at, own_data,
 use Rattle.tree.specs.Formed.{standing, formed}
 use Rattle.tree.specs.Inner.Heads.{Head}
 use Rattle.octets.specs.Order.{need}
-use Rattle.tree.specs.Calls.{Promised, Outcome, refuse, readable_to, told_as, step_gone, reworked_with, changed, latest, step_taken_back, change_ends, undo_ends, change_to, Put, Edit}
+use Rattle.tree.specs.Calls.{Promised, Outcome, refuse, readable_to, told_as, step_gone, reworked_with, latest, step_taken_back, change_ends, undo_ends, change_to, Put, Edit}
 use Rattle.tree.specs.Calls.{nobody, list, mark, owners, edit_at, edit_bytes, edit_put, add_put, tested, add_to, alter_to, undo_to}
 use Rattle.tree.specs.Inner.Faults.{object_fault, add_fault, fault_of}
 use Rattle.tree.proofs.Tested.{head-says, Forms, formed-parts, standing-most}

@@ -29,7 +29,7 @@ use Rattle.tree.proofs.Tab.{get_d-tab}
 use Rattle.tree.proofs.Settings.{rule-of, mapping-of, default-of}
 use Rattle.tree.proofs.Keeps.{Formed, formed-facts}
 use Rattle.tree.proofs.Answered.{start-facts}
-use Rattle.tree.proofs.Plays.{on, call_ends}
+use Rattle.tree.proofs.Plays.{call_ends}
 use Rattle.tree.proofs.Reaches.{settings_bytes, Reached, Begun, begun, start-stays, reaches, keeps}
 use Rattle.tree.proofs.Computed.{computed-exact, computed-mended}
 use Rattle.tree.proofs.Likeness.{rest-map, Good, objects_from, replay-like, lists-computed}

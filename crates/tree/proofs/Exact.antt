@@ -2,26 +2,23 @@
 use mathlib.Core.Path.{◌≡◌, refl, sym, ap, ◌∙◌, subst}
 use mathlib.Core.Bool.{Bool, true, false, cond}
 use mathlib.Core.List.{List, [], ◌∷◌, map}
-use mathlib.Core.Logic.{◌⊎◌, ⊎_elim}
+use mathlib.Core.Logic.{⊎_elim}
 use mathlib.Core.Option.{Option, none, some}
-use Prim.Native.Nat.{ℕ, zero, suc, ◌-◌, ◌≤◌, ◌<◌}
+use Prim.Native.Nat.{ℕ, zero, suc, ◌-◌, ◌<◌}
 use native.Mathlib.Decide.{ℕ_discrete}
 use native.Mathlib.Omega.{arith}
-use lib.ListN.{length, get_or, take, set}
-use lib.Dec.{eqb, ltb}
+use lib.ListN.{length, take, set}
 use borrow.Author.Tests.{lt-ltb}
 use Rattle.list.specs.List.{MaybeList}
 use Rattle.octets.specs.Order.{need}
 use Rattle.list.specs.Answer.{Values, done, refused}
 use Rattle.octets.proofs.Places.{length_part}
-use Rattle.octets.proofs.Tests.{off}
-use Rattle.tree.specs.declared.Answer.{Answer}
-use Rattle.tree.specs.declared.Answer.TheVariants.{Done, Refused}
+use Rattle.tree.specs.declared.Answer.TheVariants.{Refused}
 use Rattle.tree.specs.General.{is_some, tab}
-use Rattle.tree.specs.Room.{object_limit, step_limit, objects, kept_steps, settings, own_data, step, step_tag, step_object, step_data, area}
+use Rattle.tree.specs.Room.{object_limit, step_limit, objects, kept_steps, settings, own_data, step, step_object, step_data, area}
 use Rattle.tree.specs.Formed.{steps_ok, formed}
 use Rattle.tree.specs.Inner.Heads.{Head}
-use Rattle.tree.specs.Calls.{Outcome, undo_ends, step_taken_back, undo_to, answer_values, ChangeGiven}
+use Rattle.tree.specs.Calls.{undo_ends, step_taken_back, undo_to, answer_values, ChangeGiven}
 use Rattle.tree.proofs.History.{undo, settled, after, undone as undone-by}
 use Rattle.tree.proofs.Replay.{Blocks, Undo, back, undo_in, when, work, rules, shown, Tree}
 use Rattle.tree.proofs.Played.{call_to, accepted}

@@ -1,44 +1,42 @@
 -- A change in any well-formed room, reached by calls or not, answers what the model answers for the objects that the room shows.
 use mathlib.Core.Path.{◌≡◌, refl, sym, ap, ◌∙◌, subst}
-use mathlib.Core.Bool.{Bool, true, false, cond, ◌&&◌}
-use mathlib.Core.List.{List, [], ◌∷◌, ◌++◌, map, append_assoc}
+use mathlib.Core.Bool.{Bool, true, false, ◌&&◌}
+use mathlib.Core.List.{List, [], ◌∷◌, ◌++◌, map}
 use mathlib.Core.Option.{Option, none, some}
 use Prim.Native.Nat.{ℕ, zero, suc, ◌+◌, ◌≤◌, ◌<◌}
 use native.Mathlib.Omega.{arith}
 use lib.ListN.{length, get_or, set, take, length-append, length-set}
-use lib.Dec.{eqb, leb, ltb}
-use borrow.Author.Tests.{ltb-true, lt-ltb, le-ltb, ne_eqb, eqb-true, eqb-false, leb-true}
+use lib.Dec.{ltb}
+use borrow.Author.Tests.{ltb-true, lt-ltb, le-ltb}
 use Rattle.octets.specs.Order.{need}
-use Rattle.octets.specs.Bytes.{put_at, front, part}
+use Rattle.octets.specs.Bytes.{put_at, front}
 use Rattle.list.specs.Entry.{access}
 use Rattle.list.specs.List.{check_of, MaybeList}
-use Rattle.list.specs.Answer.{Values, done, refused}
+use Rattle.list.specs.Answer.{Values, refused}
 use Rattle.list.specs.declared.lists.Reading.{Reading}
 use Rattle.list.specs.declared.lists.Reading.TheVariants.{Done as Read, Refused as Unread}
 use Rattle.octets.proofs.Places.{split, length_part, part-front}
 use Rattle.octets.proofs.Tests.{both_true}
 use Rattle.inherit.specs.Compute.{ordinary, rule_ok, on_reading as Values·on_reading, readable as Values·readable}
 use Rattle.tree.specs.Model.{short_if}
-use Rattle.tree.specs.declared.Answer.{Answer}
-use Rattle.tree.specs.declared.Answer.TheVariants.{Done, Refused}
-use Rattle.tree.specs.General.{is_some, rest, bind, tab}
-use Rattle.tree.specs.Held.{held, is_done, slot_ok, parent_in, block_for, kind_byte}
-use Rattle.tree.specs.Room.{object_limit, step_limit, objects, kept_steps, room_for, settings, rule_of, default_of, default_slot, own_at, own_data, slot, area}
+use Rattle.tree.specs.General.{is_some, tab}
+use Rattle.tree.specs.Held.{held, is_done, slot_ok, parent_in, block_for}
+use Rattle.tree.specs.Room.{object_limit, step_limit, objects, room_for, settings, rule_of, default_of, default_slot, own_at, own_data, slot, area}
 use Rattle.tree.specs.Formed.{settings_ok, placed_in, formed}
 use Rattle.tree.specs.Inner.Heads.{Head}
-use Rattle.tree.specs.Calls.{Outcome, refuse, Edit, list, mark, owners, on_reading_to, readable_to, told_as, on_object, edit_at, edit_bytes, edit_put, add_put, tested, changed, change_ends, change_to, New, nobody, object_for}
-use Rattle.tree.specs.Calls.{add_to, alter_to, undo_to, start_ok, start_to, answer_values, list_bytes, copied, data_of, list_to, own_to, data_to, counts_to, ChangeGiven, add, alter}
-use Rattle.tree.proofs.History.{Call, edit, undo, Past, settled, edited, after, remains, next, noted, unnoted, accepts, afresh}
+use Rattle.tree.specs.Calls.{Outcome, refuse, Edit, list, mark, owners, on_reading_to, readable_to, told_as, on_object, edit_at, edit_bytes, edit_put, add_put, tested, change_ends, change_to, New, nobody, object_for}
+use Rattle.tree.specs.Calls.{add_to, alter_to, answer_values, ChangeGiven, add, alter}
+use Rattle.tree.proofs.History.{edit, settled, edited, after}
 use Rattle.tree.proofs.Replay.{Blocks, Undo, reads, fine, addable, when, change, keep, work, rules, shown, Tree}
-use Rattle.tree.proofs.Played.{call_to, accepted, played}
+use Rattle.tree.proofs.Played.{call_to, accepted}
 use Rattle.tree.proofs.Tab.{length-tab, get_d-tab}
 use Rattle.tree.proofs.Areas.{area_byte, area-length, area-ready}
 use Rattle.tree.proofs.Became.{change-became}
 use Rattle.tree.proofs.Machine.{placed-tab}
-use Rattle.tree.proofs.Keeps.{Formed, formed-facts, facts-formed}
-use Rattle.tree.proofs.Blocks.{length-guid, new-shows, type-part, block-sound}
+use Rattle.tree.proofs.Keeps.{Formed, facts-formed}
+use Rattle.tree.proofs.Blocks.{length-guid, new-shows}
 use Rattle.tree.proofs.Edits.{edit-fits}
-use Rattle.tree.proofs.Answered.{need-yes, start-facts}
+use Rattle.tree.proofs.Answered.{need-yes}
 use Rattle.tree.proofs.Plays.{Passes, on, stop, then, need-first, reads_first, tested-first, accepted-told, call_ends}
 use Rattle.tree.proofs.Slots.{slot-reads}
 use Rattle.tree.proofs.Turns.{owned-ordered}

@@ -1,5 +1,5 @@
 -- The model's answer 8 to a change: exactly where the list given, or some list that the change would have worked out afresh, passes 1,024 bytes.
-use mathlib.Core.Path.{◌≡◌, refl, sym, ap, ◌∙◌}
+use mathlib.Core.Path.{◌≡◌, refl, ap, ◌∙◌}
 use mathlib.Core.Bool.{Bool, true, false, cond, ◌&&◌}
 use mathlib.Core.List.{List, [], ◌∷◌, ◌++◌}
 use mathlib.Core.Logic.{◌⊎◌, inl, inr}
@@ -20,11 +20,11 @@ use Rattle.octets.proofs.Tests.{both_true, off}
 use Rattle.inherit.specs.Branch.{Result, absent, holds, result_of}
 use Rattle.inherit.specs.Compute.{ordinary, bytes_for, on_reading, readable}
 use Rattle.octets.specs.Order.{need}
-use Rattle.list.specs.Answer.{Values, done, refused}
+use Rattle.list.specs.Answer.{Values, refused}
 use Rattle.tree.specs.Held.{is_done}
 use Rattle.tree.proofs.Replay.{reads}
 use Rattle.tree.specs.General.{bind, is_some, every}
-use Rattle.tree.specs.Model.{Settings, Object, no-object, object, asked, short, fitting, list_below, above, list_from, list_of, listed, Change, add, set_list, set_mark, set_owners, with_list, with_mark, with_owners, apply, short_if, told, outcome, placed, change_answer}
+use Rattle.tree.specs.Model.{Settings, Object, no-object, object, asked, fitting, list_below, above, list_from, list_of, listed, Change, add, set_list, set_mark, set_owners, with_list, with_mark, with_owners, apply, short_if, told, outcome, placed, change_answer}
 use Rattle.tree.specs.Apart.{changed_by}
 
 -- each object has no parent or an earlier one

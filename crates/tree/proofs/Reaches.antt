@@ -13,7 +13,6 @@ use lib.ListN.{length, get_or, drop, replicate, length-append, length-drop, leng
 use lib.Seq.{take_at}
 use lib.Dec.{leb}
 use borrow.Author.Tests.{leb-true, lt-ltb}
-use Rattle.list.specs.List.{MaybeList}
 use Rattle.octets.specs.Bytes.{front, part}
 use Rattle.octets.proofs.Tests.{both_true, off}
 use Rattle.inherit.specs.Compute.{rule_ok}

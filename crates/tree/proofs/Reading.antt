@@ -17,10 +17,9 @@ use Rattle.tree.specs.declared.Answer.{Answer}
 use Rattle.tree.specs.declared.Answer.TheVariants.{Done}
 use Rattle.tree.specs.Held.{held, block_ok, parent_byte_in, parent_in, kind_byte, mark_byte, type_of, owner_of, group_of, own_list}
 use Rattle.tree.specs.Room.{objects, kept_steps, own_data, slot}
-use Rattle.tree.specs.Formed.{formed}
 use Rattle.tree.specs.Calls.{Outcome, refuse, told_as, on_object, answer_values, list_bytes, copied, data_of, list_to, own_to, data_to, counts_to}
 use Rattle.tree.specs.Model as Model
-use Rattle.tree.specs.Shown.{settings_in, object_in, objects_in, read_with}
+use Rattle.tree.specs.Shown.{object_in, objects_in, read_with}
 use Rattle.tree.proofs.Blocks.{type-part, block-sound}
 use Rattle.tree.proofs.Answered.{need-yes}
 use Rattle.tree.proofs.Keeps.{Formed, facts-formed}

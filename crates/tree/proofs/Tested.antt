@@ -1,14 +1,14 @@
 -- Tests and the facts that they stand for: the head of a room, a well-formed room, and the laws of the two loops.
 use mathlib.Core.Path.{◌≡◌, refl, sym, ◌∙◌}
 use mathlib.Core.List.{List}
-use mathlib.Core.Bool.{Bool, true, false, not, cond, ◌&&◌}
+use mathlib.Core.Bool.{Bool, true, false, cond, ◌&&◌}
 use Prim.Native.Nat.{ℕ, zero, suc, ◌+◌, ◌-◌, ◌≤◌, ◌<◌}
 use native.Mathlib.Numerals.{add-one}
 use native.Mathlib.Decide.{ℕ_discrete}
 use native.Mathlib.Omega.{arith}
 use lib.ListN.{length, drop, length-take, length-drop}
 use lib.Dec.{eqb}
-use borrow.Author.Tests.{leb-true, le-leb, not-true, not-false}
+use borrow.Author.Tests.{leb-true, le-leb}
 use Rattle.octets.specs.Bytes.{le, part}
 use Rattle.octets.proofs.Places.{part-most}
 use Rattle.octets.proofs.Tests.{both_true, false-or}
@@ -20,11 +20,11 @@ use Rattle.tree.specs.Inner.Heads.{Head}
 
 -- ---- a callee's answer, tested by `!`
 
-pub refused : {x b : Bool} → x ≡ b → not x ≡ true → b ≡ false
-refused {x} e n = sym e ∙ not-true x n
+pub refused : {x b : Bool} → x ≡ b → x ≡ false → b ≡ false
+refused e n = sym e ∙ n
 
-pub passed : {x b : Bool} → x ≡ b → not x ≡ false → b ≡ true
-passed {x} e n = sym e ∙ not-false x n
+pub passed : {x b : Bool} → x ≡ b → x ≡ true → b ≡ true
+passed e n = sym e ∙ n
 
 -- ---- the head of a room
 

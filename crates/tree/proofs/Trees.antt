@@ -1,6 +1,6 @@
 -- Trees worked by hand: the script of RULES 6.7, K7 to K10, a default list, undo, forgotten steps and refusals, computed over the model; and, by demand 3, what the
 -- calls answer in any room.
-use mathlib.Core.Path.{◌≡◌, refl, sym, ap, ap₂, ◌∙◌}
+use mathlib.Core.Path.{◌≡◌, refl, ap, ap₂, ◌∙◌}
 use mathlib.Core.Bool.{Bool, true, false}
 use mathlib.Core.List.{List, [], ◌∷◌, ◌++◌, map, flatten}
 use mathlib.Core.Option.{Option, none, some}
@@ -14,13 +14,12 @@ use Rattle.list.specs.Answer.{Values, done, refused}
 use Rattle.inherit.proofs.Worked.{mapping, system, parent_with, inherited, listed as bytes}
 use Rattle.tree.specs.General.{bind, is_some, every, rest}
 use Rattle.tree.specs.Room.{room_for}
-use Rattle.tree.specs.Calls.{list as Edit·list, mark as Edit·mark, add as Change·add, alter, start_to, answer_values}
-use Rattle.tree.specs.Model.{Settings, Object, object, fitting, list_from, list_of, listed, Change, add, set_list, set_mark, set_owners, apply, objects_after, placed, short_if, told, outcome, change_answer, limits_ok, start_answer, Part, computed-list}
+use Rattle.tree.specs.Calls.{mark as Edit·mark, add as Change·add, alter, start_to, answer_values}
+use Rattle.tree.specs.Model.{Settings, fitting, list_from, list_of, listed, add, set_list, set_mark, set_owners, apply, objects_after, placed, short_if, told, outcome, change_answer, limits_ok, start_answer, computed-list}
 use Rattle.tree.specs.Model.{own-list, other-data, bytes_if, parent_byte, data_bytes, part_bytes, part_told, read_answer, accepted, read_into, Call, start, change, undo, read, counts, Tree, begun, objects_of, undo_answer, answer, taken_off, next, after}
 use Rattle.tree.specs.Shown as Shown
 use Rattle.tree.specs.Shown.{settings_from, meant, alteration, change_meant, played_on, answers_on}
-use Rattle.tree.proofs.Modelled.{said}
-use Rattle.tree.proofs.Demand3.{start-as, Shows, demand3}
+use Rattle.tree.proofs.Demand3.{start-as, demand3}
 use Rattle.tree.proofs.Worked.{bytes_open, entries_open, lists_open, copies_open, last_open, compute-open}
 
 -- ---- over the model

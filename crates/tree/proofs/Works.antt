@@ -27,8 +27,8 @@ use Rattle.inherit.proofs.Planned.{given-lent}
 use Rattle.inherit.proofs.Theorems.{present-fits}
 use Rattle.tree.specs.General.{bind, is_some}
 use Rattle.tree.specs.Inner.Else.{or_else}
-use Rattle.tree.specs.Held.{has_list, bytes_in, held, slot_for, kind_byte, mark_byte, type_of, owner_of, group_of, own_slot, own_list, parent_byte_in, parent_of}
-use Rattle.tree.specs.Room.{slot_at, settings, rule_of, default_slot, default_of, mapping_of, own_data, slot}
+use Rattle.tree.specs.Held.{has_list, bytes_in, held, slot_for, kind_byte, mark_byte, type_of, owner_of, group_of, own_slot, parent_byte_in, parent_of}
+use Rattle.tree.specs.Room.{slot_at, settings, rule_of, default_slot, mapping_of, own_data, slot}
 use Rattle.tree.specs.Inner.Asking.{settings_asked}
 use Rattle.tree.specs.Work.{asked_in, computed, above_in, laid, rework, reworked}
 

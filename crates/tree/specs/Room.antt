@@ -1,5 +1,5 @@
 -- Where the parts of a room lie (docs/ROOM.md): four numbers, the settings, the objects, the kept steps.
-use Rattle.std.specs.Prelude.{ℕ, ◌+◌, ◌*◌, List, [], ◌∷◌, ◌++◌, Bool, cond, ◌&&◌, get_or, take, drop, replicate, leb}
+use Rattle.std.specs.Prelude.{ℕ, ◌+◌, ◌*◌, List, [], ◌∷◌, ◌++◌, cond, get_or, take, drop, replicate}
 use Rattle.list.specs.List.{MaybeList}
 use Rattle.octets.specs.Bytes.{le, spell, part}
 use Rattle.inherit.specs.declared.Mapping.{Mapping}
@@ -20,8 +20,8 @@ abbrev pub kept_steps : List ℕ → ℕ
 kept_steps r = get_or r 3 0
 
 -- own data and computed list of object i; the steps behind n objects
-abbrev pub field_own : ℕ → ℕ
-field_own i = 1048 + i * 2211
+abbrev pub own_at : ℕ → ℕ
+own_at i = 1048 + i * 2211
 
 abbrev pub slot_at : ℕ → ℕ
 slot_at i = 2232 + i * 2211
@@ -61,7 +61,7 @@ settings_for rule m default =
 
 -- own data and computed list of object i, and step j, the latest first, behind n objects
 unfoldable pub own_data : ℕ → List ℕ → List ℕ
-own_data i r = part (field_own i) 1184 r
+own_data i r = part (own_at i) 1184 r
 
 unfoldable pub slot : ℕ → List ℕ → List ℕ
 slot i r = part (slot_at i) 1027 r

@@ -1,5 +1,5 @@
 -- How the bytes of a room, and the arguments of a call, are read as the model's objects, settings and calls.
-use Rattle.std.specs.Prelude.{ℕ, ◌-◌, ◌%◌, cond, List, [], ◌∷◌, length, take, set, eqb, leb}
+use Rattle.std.specs.Prelude.{ℕ, ◌-◌, ◌%◌, cond, List, [], ◌∷◌, take, set, eqb, leb}
 use Rattle.list.specs.List.{MaybeList}
 use Rattle.list.specs.Answer.{Values}
 use Rattle.tree.specs.General.{tab}

@@ -1,5 +1,5 @@
 -- How the room's computed lists are worked out again: each from its parent's computed list, by the computation's own definition.
-use Rattle.std.specs.Prelude.{ℕ, zero, suc, List, Bool, true, false, cond, eqb, ltb}
+use Rattle.std.specs.Prelude.{ℕ, zero, suc, List, true, false, cond, eqb, ltb}
 use Rattle.std.proofs.Math.Option.{Option, none, some}
 use Rattle.list.specs.List.{MaybeList, lent}
 use Rattle.octets.specs.Bytes.{put_at}

@@ -1,5 +1,6 @@
 // A tree of objects with undo, kept as bytes in a lent room (docs/ROOM.md).
 #![tactic(auto)]
+
 ghost use Rattle.std.specs.Prelude.{◌≡◌, true, false, ◌≤◌, length};
 ghost use Rattle.list.specs.List.{lent};
 ghost use Rattle.octets.specs.Bytes.{front};
