@@ -55,9 +55,11 @@ endif
 play: axs
 	@$(EMULATED) target/bin/axs <$(SCRIPT)
 
-# what rt says goes to standard error, so that `make play` writes the program's text alone
+# rt builds a program where it runs it, and does nothing more where nothing has changed; what it says goes to standard error, so that
+# `make play` writes the program's text alone
+BUILD_AXS = (cd crates/axs && rt run <../../examples/document.axs >/dev/null) && mkdir -p target/bin && cp crates/axs/out/axs target/bin/axs
 axs:
-	@rt check axs >&2
+	@$(BUILD_AXS)
 
 # two of them are the same changes in two orders
 examples: axs
@@ -82,23 +84,24 @@ test:
 quick:
 	tools/claims
 	tools/header
-	rt check
+	RT_SECONDS=600 rt all test
 	$(MAKE) --no-print-directory lib
 	tools/archive
 	$(MAKE) --no-print-directory -j2 --output-sync=target compare CASES=5000 TREES=5000 DEEP=2 ORDERS=500 SCRIPTS=5000 PIPED=100
 	@echo "quick: all held; no edit was tried, and the gate asks for more: no verdict"
 
 edits: second
-	rt check
+	rt all check
 	tools/edits
 
-# made anew where something of the layers has changed
-LAYERS = octets condition wording list access sidebyside inherit tree script capi
+# made anew where something of the layers has changed; what rt itself keeps in a crate's out/ aside
+LAYERS = octets condition wording list access sidebyside inherit tree script capi capi_c
 PROGRAM = octets condition list inherit tree script axs
+files_of = $(shell find $(1:%=crates/%) -name out -prune -o -type f -print)
 lib: libpipeteasel.a
-libpipeteasel.a: crates.txt $(shell find $(LAYERS:%=crates/%) -type f)
-	rt staticlib capi
-	cp target/staticlib/libcapi.a libpipeteasel.a
+libpipeteasel.a: crates.txt $(call files_of,$(LAYERS))
+	cd crates/capi_c && rt lib
+	cp crates/capi_c/out/libcapi_c.a libpipeteasel.a
 
 # No file of the C compiler's own start goes in: it has writable data, and the library has none. What it takes of libc is bound
 # as it is loaded, and then nothing of it can be written.
@@ -109,9 +112,8 @@ $(SHARED): libpipeteasel.a pipeteasel.map
 		-Wl,--version-script=pipeteasel.map -Wl,-z,relro,-z,now,-z,noexecstack,-z,defs,-z,text -o $@
 
 # as `make axs`, but only where something of the program has changed, so that `make install` has nothing to prove behind `make`
-target/bin/axs: crates.txt $(shell find $(PROGRAM:%=crates/%) -type f)
-	rt check axs >&2
-	touch -c $@
+target/bin/axs: crates.txt $(call files_of,$(PROGRAM))
+	@$(BUILD_AXS)
 
 # Modes are the same whatever the umask is; folders that are there already stay as they are.
 PREFIX ?= /usr/local
