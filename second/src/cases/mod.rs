@@ -16,8 +16,9 @@ use std::collections::HashSet;
 use crate::examples::Example;
 use crate::records::Case;
 
-/// Every layer's cases, one layer after the other; new layers come last, so
-/// that what is before them in the file stays.
+/// Every stored layer's cases, one layer after the other; new layers come
+/// last, so that what is before them in the file stays. Those of two lists
+/// side by side aren't stored: the gate runs them as they are made.
 pub fn all(examples: &[Example]) -> Vec<Case> {
     [
         list::all(examples),
@@ -27,7 +28,6 @@ pub fn all(examples: &[Example]) -> Vec<Case> {
         access::all(),
         condition::all(),
         wording::all(),
-        sidebyside::all(),
     ]
     .concat()
 }
