@@ -210,7 +210,8 @@ stepping = (refl, (refl, refl))
 -- ---- calls: the room afterwards, byte by byte
 
 calls-open : Unit {0}
-unfolding need on_reading_to readable_to short_if limits_ok start_ok told_as on_object start_to add_to alter_to undo_to list_bytes copied list_to own_to data_of data_to counts_to tested edit_at edit_bytes changed reworked_with step_taken_back change_ends undo_ends empty_room above_in Work.laid rework reworked
+unfolding need on_reading_to readable_to short_if limits_ok start_ok told_as on_object start_to add_to alter_to undo_to list_bytes copied list_to own_to data_of data_to counts_to tested edit_at edit_bytes changed
+    reworked_with step_taken_back change_ends undo_ends empty_room above_in Work.laid rework reworked
 calls-open = tt
 
 -- a list of so many bytes in its slot, and zeros behind it; the fresh lists: K1's for the container; K9's

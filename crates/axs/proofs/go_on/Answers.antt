@@ -76,4 +76,9 @@ returns c =
     let a = c.args in
     let e = c.records_in.ensures in
     let n = c.if-n-eq0.false in
-    let some : a.held + 1 ≤ a.held + c.count-n.result = omega (arith, n) in record { room_after = rw (← to_z-of_z c.ranges.got) (read-records a.room.now (came c.before.before.before.before.before.before.before.before.before.before) n c.if-at-eq0.false _ e.room_after); onward = onward-from a.at _ (a.held + c.count-n.result) _ some e.onward }
+    let some : a.held + 1 ≤ a.held + c.count-n.result = omega (arith, n) in
+    record {
+      room_after = rw (← to_z-of_z c.ranges.got)
+          (read-records a.room.now (came c.before.before.before.before.before.before.before.before.before.before) n c.if-at-eq0.false _ e.room_after);
+      onward = onward-from a.at _ (a.held + c.count-n.result) _ some e.onward;
+    }

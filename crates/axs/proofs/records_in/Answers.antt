@@ -36,4 +36,9 @@ returns c =
     let a = c.args in
     let e = c.advance-run.ensures in
     let f = c.if-run.false in
-    let l : a.held ≤ length a.buffer.now = omega arith in record { room_after = rw e.buffer_after (records-on a.at a.held a.buffer.now a.room.now _ _ _ e.used_value.0 e.used_value.1.0 e.used_value.1.1 l (omega arith) f); onward = records-onward a.at a.held a.buffer.now a.room.now _ _ _ e.used_value.0 e.used_value.1.0 e.used_value.1.1 l (omega arith) f (λ i. (c.slice_known-2-1.given i).fits) (omega arith) }
+    let l : a.held ≤ length a.buffer.now = omega arith in
+    record {
+      room_after = rw e.buffer_after (records-on a.at a.held a.buffer.now a.room.now _ _ _ e.used_value.0 e.used_value.1.0 e.used_value.1.1 l (omega arith) f);
+      onward = records-onward a.at a.held a.buffer.now a.room.now _ _ _ e.used_value.0 e.used_value.1.0 e.used_value.1.1 l (omega arith) f
+          (λ i. (c.slice_known-2-1.given i).fits) (omega arith);
+    }

@@ -142,8 +142,9 @@ lists-good c =
 
 pub returns-then-not-rule_ok : goal.returns-then-not-rule_ok
 returns-then-not-rule_ok c =
+    let at_10 = c.before.before.before.before.before.before.before.before.before.before in
     let bad = sym c.rule_ok.ensures ∙ c.if-not-rule_ok.true in
-    settle (asked c.before.before.before.before.before.before.before.before.before.before) c.args.out.now 12 0 0 (λ z. omega arith) (bad-rule (asked c.before.before.before.before.before.before.before.before.before.before) (room c.before.before.before.before.before.before.before.before.before.before) bad)
+    settle (asked at_10) c.args.out.now 12 0 0 (λ z. omega arith) (bad-rule (asked at_10) (room at_10) bad)
 
 pub returns-then-p-ne0 : goal.returns-then-p-ne0
 returns-then-p-ne0 c =
@@ -200,8 +201,10 @@ returns-then-not-types_ok c =
 
 pub run-requires : goal.run-requires
 run-requires c =
+    let at_12 = c.before.before.before.before.before.before.before.before.before.before.before.before in
+    let at_14 = at_12.before.before in
     record {
-      parent-found = parent-found c.before.before.before.before.before.before.before.before.before.before.before.before.before.before;
+      parent-found = parent-found at_14;
       creator-found = creator-found c.before.before.before.before.before.before.before.before.before.before.before;
       default-found = default-found c.before.before.before.before.before.before.before.before;
       owner-good = owner-good c.before.before.before.before.before.before;

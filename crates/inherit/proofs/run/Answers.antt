@@ -126,9 +126,10 @@ group-held c = held (group (start_group c)) c.from_bytes-group_made.result (star
 
 pub any_heritable-requires : goal.any_heritable-requires
 any_heritable-requires c =
+    let at_8 = c.before.before.before.before.before.before.before.before in
     let a = c.args in
     parent-passes a.rule a.settings a.mapping a.p a.c a.d
-    (parent c.before.before.before.before.before.before.before.before) (creator c.before.before.before.before.before.before.before.before) (default c.before.before.before.before.before.before.before.before) (types c.before.before.before.before.before.before.before.before) (owner c.before.before.before.before.before.before.before.before) (group c.before.before.before.before.before.before.before.before) c.requires
+    (parent at_8) (creator at_8) (default at_8) (types at_8) (owner at_8) (group at_8) c.requires
 
 pub slice_bounds-owner_bytes-end : goal.slice_bounds-owner_bytes-end
 slice_bounds-owner_bytes-end c = let h = owner-held c.before.before.before.before.before.before.before.before in omega (arith, h.most, h.wide)
@@ -144,16 +145,25 @@ slice_bounds-fill-end-2 c = sym (front_long (group-held c.before.before.before.b
 
 pub fill-requires : goal.fill-requires
 fill-requires c =
-    let s = start_owner c.before.before.before.before.before.before.before.before.before.before in
-    let o = owner-held c.before.before.before.before.before.before.before.before.before.before in
-    let r = group-held c.before.before.before.before.before.before.before in record { ready = parts-ready c.before.before.before.before.before.before.before.before.before.before.before; count_bound = (four-most (types s) s.requires.types-good, omega (arith, front_long o, o.most), omega (arith, front_long r, r.most)) }
+    let at_10 = c.before.before.before.before.before.before.before.before.before.before in
+    let s = start_owner at_10 in
+    let o = owner-held at_10 in
+    let r = group-held c.before.before.before.before.before.before.before in
+    record {
+      ready = parts-ready c.before.before.before.before.before.before.before.before.before.before.before;
+      count_bound =
+          (four-most (types s) s.requires.types-good, omega (arith, front_long o, o.most), omega (arith, front_long r, r.most));
+    }
 
 pub returns : goal.returns
 returns c =
-    let s = start_owner c.before.before.before.before.before.before.before.before.before.before.before.before.before in
+    let at_12 = c.before.before.before.before.before.before.before.before.before.before.before.before in
+    let at_13 = at_12.before in
+    let at_14 = at_13.before in
+    let s = start_owner at_13 in
     let a = s.args in
     let f = c.fill.ensures in
     let g = given_is a.rule a.settings a.mapping (parent s) (creator s) (default s) (types s) c.four_of.result (owner s) (group s) _ _
-    c.four_of.ensures (owner-held c.before.before.before.before.before.before.before.before.before.before.before.before.before).whole (group-held c.before.before.before.before.before.before.before.before.before.before).whole in
-    let e = parts-give c.before.before.before.before.before.before.before.before.before.before.before.before.before.before _ g in
+    c.four_of.ensures (owner-held at_13).whole (group-held c.before.before.before.before.before.before.before.before.before.before).whole in
+    let e = parts-give at_14 _ g in
     ends_of e f

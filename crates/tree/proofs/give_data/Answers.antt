@@ -64,7 +64,10 @@ lay-requires-3 c =
 
 pub overflow_cast-result : goal.overflow_cast-result
 overflow_cast-result c =
-    omega (arith, owner-few c.before.before.before.before.before.before.before.before.before.before.before.before.before.before.before.before.before, group-few c.before.before.before.before.before.before.before.before.before.before.before.before.before.before.before)
+    let at_12 = c.before.before.before.before.before.before.before.before.before.before.before.before in
+    let at_15 = at_12.before.before.before in
+    let at_17 = at_15.before.before in
+    omega (arith, owner-few at_17, group-few at_15)
 
 pub shape_of-out : goal.shape_of-out
 shape_of-out c =
@@ -72,9 +75,12 @@ shape_of-out c =
 
 pub returns : goal.returns
 returns c =
+    let at_12 = c.before.before.before.before.before.before.before.before.before.before.before.before in
+    let at_15 = at_12.before.before.before in
+    let at_17 = at_15.before.before in
     let p = c.part_of-3.ensures in
-    let eg = group-is c.before.before.before.before.before.before.before.before.before.before.before.before.before.before.before in
-    let eo = owner-is c.before.before.before.before.before.before.before.before.before.before.before.before.before.before.before.before.before in
+    let eg = group-is at_15 in
+    let eo = owner-is at_17 in
     let l = data-length c.args.b.now _ _ _ c.requires p eo eg in
     settle (copied_all _ (data_of c.args.b.now) _ (omega arith)) (ap {B = Answer} (λ (n : ℕ). Done n true 0) l)
     (data-laid c.args.b.now _ _ _ c.requires p eo eg c.args.out.now _ _ _ (omega arith)

@@ -95,9 +95,10 @@ returns-then-left-eq0 c =
 
 pub returns-then-long-eq0 : goal.returns-then-long-eq0
 returns-then-long-eq0 c =
+    let at_8 = c.before.before.before.before.before.before.before.before in
     let i = c.loop-cells in
     c.refused_run-then-long-eq0.ensures
-    ∙ running_none (names c.before.before.before.before.before.before.before.before) (bytes c.before.before.before.before.before.before.before.before) i.cells i.top i.at i.left i.invariant (more c.before.before.before.before.before.before) c.if-left-eq0.false (sym (long-is c.before.before.before) ∙ c.if-long-eq0.true)
+    ∙ running_none (names at_8) (bytes at_8) i.cells i.top i.at i.left i.invariant (more c.before.before.before.before.before.before) c.if-left-eq0.false (sym (long-is c.before.before.before) ∙ c.if-long-eq0.true)
 
 pub returns-then-e-gt2 : goal.returns-then-e-gt2
 returns-then-e-gt2 c =

@@ -84,7 +84,8 @@ module _ (c : After-put_header) where
 
 pub returns-then-plan : goal.returns-then-plan
 returns-then-plan c =
-    fill-absent (given c.before.before.before.before.before.before.before.before) c.args.plan c.args.parts (parent c.before.before.before.before.before.before.before.before) (creator c.before.before.before.before.before.before.before.before) (default c.before.before.before.before.before.before.before.before) (buffer c.before.before.before.before.before.before.before.before) c.if-plan.true
+    let at_8 = c.before.before.before.before.before.before.before.before in
+    fill-absent (given at_8) c.args.plan c.args.parts (parent at_8) (creator at_8) (default at_8) (buffer at_8) c.if-plan.true
 
 pub overflow_add-size : goal.overflow_add-size
 overflow_add-size c = omega (arith, c.measure_all-m.ensures.1)

@@ -96,7 +96,9 @@ write_next-second-requires c =
 
 pub write_next-requires : goal.write_next-requires
 write_next-requires c =
-    let s = start1 c.before.before.before.before.before.before.before.before.before.before.before.before.before.before.before in
+    let at_12 = c.before.before.before.before.before.before.before.before.before.before.before.before in
+    let at_15 = at_12.before.before.before in
+    let s = start1 at_15 in
     let w1 = c.write_next-own.ensures in
     let w2 = c.write_next-first.ensures in
     let w3 = c.write_next-second.ensures in
@@ -104,7 +106,9 @@ write_next-requires c =
 
 pub returns : goal.returns
 returns c =
-    let s = start1 c.before.before.before.before.before.before.before.before.before.before.before.before.before.before.before.before.before.before in
+    let at_12 = c.before.before.before.before.before.before.before.before.before.before.before.before in
+    let at_18 = at_12.before.before.before.before.before.before in
+    let s = start1 at_18 in
     let w1 = c.write_next-own in
     let w2 = c.write_next-first in
     let w3 = c.write_next-second in

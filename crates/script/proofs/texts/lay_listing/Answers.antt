@@ -17,7 +17,9 @@ Start = lts.Start tie.the-claims lts-reads.Pre lts-reads.Post goal.the-invariant
 -- as the function was entered, from the loop back past the texts of the heading
 abbrev start : At-loop → Start
 start l =
-    l.before.before.before.before.before.before.before.before.before.before.before.before.before.before.before.before.before.before.before
+    let at_12 = l.before.before.before.before.before.before.before.before.before.before.before.before in
+    let at_19 = at_12.before.before.before.before.before.before.before in
+    at_19
 
 pub loop-i-init : goal.loop-i-init
 loop-i-init c = (omega arith, lined-none _ _ _)
