@@ -126,7 +126,8 @@ pub(crate) fn decide(
     let mut left = wanted;
     let mut at: usize = 8;
     let mut more = n;
-    while left != 0 {
+    // labelled, so that what the proof calls the loop doesn't hang on its test
+    'entries: while left != 0 {
         if more == 0 {
             return false;
         }

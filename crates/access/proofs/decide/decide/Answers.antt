@@ -18,16 +18,16 @@ use Rattle.access.proofs.decide.decide.Reads as lts-reads
 use Rattle.access.proofs.decide.decide.Goals as goal
 
 abbrev Else1 : Type 0
-Else1 = lts.Else1 tie.the-claims lts-reads.Pre lts-reads.Post goal.the-invariant-loop-left goal.the-decreases-loop-left
+Else1 = lts.Else1 tie.the-claims lts-reads.Pre lts-reads.Post goal.the-invariant-entries goal.the-decreases-entries
 
 abbrev Start : Type 0
-Start = lts.Start tie.the-claims lts-reads.Pre lts-reads.Post goal.the-invariant-loop-left goal.the-decreases-loop-left
+Start = lts.Start tie.the-claims lts-reads.Pre lts-reads.Post goal.the-invariant-entries goal.the-decreases-entries
 
 abbrev After-look_at : Type 0
-After-look_at = lts.After-look_at tie.the-claims lts-reads.Pre lts-reads.Post goal.the-invariant-loop-left goal.the-decreases-loop-left
+After-look_at = lts.After-look_at tie.the-claims lts-reads.Pre lts-reads.Post goal.the-invariant-entries goal.the-decreases-entries
 
 abbrev After-turn_past : Type 0
-After-turn_past = lts.After-turn_past tie.the-claims lts-reads.Pre lts-reads.Post goal.the-invariant-loop-left goal.the-decreases-loop-left
+After-turn_past = lts.After-turn_past tie.the-claims lts-reads.Pre lts-reads.Post goal.the-invariant-entries goal.the-decreases-entries
 
 -- in a turn: the entry that comes next
 module _ (c : Else1) where
@@ -41,13 +41,13 @@ module _ (c : Else1) where
   sids = held_of start.args.held.now
 
   abbrev next : List ℕ
-  next = drop c.loop-left.at bytes
+  next = drop c.entries.at bytes
 
-  inside-here : c.loop-left.at + size_of next ≤ length bytes
+  inside-here : c.entries.at + size_of next ≤ length bytes
   inside-here =
-      let l = c.loop-left in
+      let l = c.entries in
       let a = start.args in
-      inside a.guid a.table.now sids a.rev bytes a.n a.wanted l.left l.at l.more l.invariant c.loop-left-test.true (omega arith)
+      inside a.guid a.table.now sids a.rev bytes a.n a.wanted l.left l.at l.more l.invariant c.entries-test.true (omega arith)
 
 -- after the look: what it finds of that entry
 module _ (c : After-look_at) where
@@ -55,25 +55,25 @@ module _ (c : After-look_at) where
   turn = c.before.before
 
   look-here : c.look_at-look.result ≡ look_of (next turn)
-  look-here = c.look_at-look.ensures ∙ ap (λ (t : List ℕ). look_of t) (rest-is (bytes turn) turn.loop-left.at)
+  look-here = c.look_at-look.ensures ∙ ap (λ (t : List ℕ). look_of t) (rest-is (bytes turn) turn.entries.at)
 
 -- and what the entry leaves
 left_here : (c : After-turn_past)
     → let t = turn c.before.before in
-    c.turn_past.result ≡ turn_with (left_after (start t).args.guid (start t).args.table.now (sids t) t.loop-left.left (next t))
+    c.turn_past.result ≡ turn_with (left_after (start t).args.guid (start t).args.table.now (sids t) t.entries.left (next t))
 left_here c =
     let t = turn c.before.before in
-    let l = t.loop-left in
+    let l = t.entries in
     c.turn_past.ensures ∙ ap (λ (u : List ℕ). turn_with (left_after (start t).args.guid (start t).args.table.now (sids t) l.left u)) (rest-is (bytes t) l.at)
 
-pub loop-left-init : goal.loop-left-init
-loop-left-init c = deciding-none _ _ _ _ _ _ _ c.requires.0
+pub entries-init : goal.entries-init
+entries-init c = deciding-none _ _ _ _ _ _ _ c.requires.0
 
 pub returns-then-more-eq0 : goal.returns-then-more-eq0
 returns-then-more-eq0 c =
-    let l = c.loop-left in
+    let l = c.entries in
     let a = c.args in
-    decides-end a.guid a.table.now (held_of a.held.now) a.rev a.list.now a.n a.wanted l.left l.at l.more l.invariant c.loop-left-test.true c.if-more-eq0.true
+    decides-end a.guid a.table.now (held_of a.held.now) a.rev a.list.now a.n a.wanted l.left l.at l.more l.invariant c.entries-test.true c.if-more-eq0.true
 
 pub slice_bounds-look_at-count : goal.slice_bounds-look_at-count
 slice_bounds-look_at-count c = omega (arith, inside-here c.before)
@@ -96,19 +96,19 @@ slice_bounds-turn_past-end c = omega (arith, inside-here (turn c.before))
 pub turn_past-requires : goal.turn_past-requires
 turn_past-requires c =
     let t = turn c.before.before in
-    let l = t.loop-left in
+    let l = t.entries in
     let s = start t in
     let a = s.args in
-    let i = sid-here a.guid a.table.now (sids t) a.rev (bytes t) a.n a.wanted l.left l.at l.more l.invariant t.loop-left-test.true (omega arith) in
+    let i = sid-here a.guid a.table.now (sids t) a.rev (bytes t) a.n a.wanted l.left l.at l.more l.invariant t.entries-test.true (omega arith) in
     subst (λ (u : List ℕ). (c.look_at-look.result ≡ look_of u) × SidIn u × (reaches_end a.held.now ≡ true)) (sym (rest-is (bytes t) l.at))
     (look-here c.before.before, i, s.requires.1)
 
 pub returns-in-Denied : goal.returns-in-Denied
 returns-in-Denied c =
     let t = turn c.before.before.before.before in
-    let l = t.loop-left in
+    let l = t.entries in
     let a = (start t).args in
-    decides-no a.guid a.table.now (sids t) a.rev (bytes t) a.n a.wanted l.left l.at l.more l.invariant t.loop-left-test.true (omega arith)
+    decides-no a.guid a.table.now (sids t) a.rev (bytes t) a.n a.wanted l.left l.at l.more l.invariant t.entries-test.true (omega arith)
     (sym (left_here c.before.before) ∙ c.in-Denied.is)
 
 pub overflow_add-at : goal.overflow_add-at
@@ -118,19 +118,19 @@ overflow_add-at c =
 pub overflow_sub-more : goal.overflow_sub-more
 overflow_sub-more c = omega arith
 
-pub loop-left-smaller : goal.loop-left-smaller
-loop-left-smaller c = omega arith
+pub entries-smaller : goal.entries-smaller
+entries-smaller c = omega arith
 
-pub loop-left-preserved : goal.loop-left-preserved
-loop-left-preserved c =
+pub entries-preserved : goal.entries-preserved
+entries-preserved c =
     let t = turn c.before.before.before.before.before in
-    let l = t.loop-left in
+    let l = t.entries in
     let a = (start t).args in
-    decides-on a.guid a.table.now (sids t) a.rev (bytes t) a.n a.wanted l.left l.at l.more l.invariant t.loop-left-test.true (omega arith)
+    decides-on a.guid a.table.now (sids t) a.rev (bytes t) a.n a.wanted l.left l.at l.more l.invariant t.entries-test.true (omega arith)
     c.in-On.l c.look_at-look.result.size (sym (left_here c.before.before.before) ∙ c.in-On.is) (ap (λ (x : Look). x.size) (look-here c.before.before.before.before.before))
 
 pub returns : goal.returns
 returns c =
-    let l = c.loop-left in
+    let l = c.entries in
     let a = c.args in
-    decides-yes a.guid a.table.now (held_of a.held.now) a.rev a.list.now a.n a.wanted l.left l.at l.more l.invariant c.loop-left-test.false
+    decides-yes a.guid a.table.now (held_of a.held.now) a.rev a.list.now a.n a.wanted l.left l.at l.more l.invariant c.entries-test.false
