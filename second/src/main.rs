@@ -18,7 +18,7 @@ const USAGE: &str = "usage:
   second cases access           write the stored questions who may open, and steps through lists
   second cases condition        write the stored expressions and tables
   second cases wording          write the stored texts of conditions
-  second cases sidebyside       write the stored pairs of lists that are compared
+  second cases sidebyside       write the pairs of lists that are compared
   second sample EVERY           write one of so many cases of the case file on standard input
   second answer                 answer the case file on standard input
   second check-examples FILE    compare with the answers written by hand
