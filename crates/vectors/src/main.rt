@@ -1,4 +1,4 @@
-// Runs the stored cases of standard input through the exported calls and writes what each answers, a line for each.
+// Runs the stored cases of standard input through the C library's calls and writes what each answers, a line for each.
 // A case is a byte that says its kind, and what each layer's file says: 1 and 2 lists, 3 computing, 4 to 14 trees, 15 scripts, 16 to 19
 // who may open, a walk and expressions, 20 conditions typed as text, 21 two lists side by side.
 // All numbers have their lowest byte first. The byte 0 ends the input; for one that holds no case, `bad` is written.
