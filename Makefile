@@ -95,8 +95,8 @@ edits: second
 	tools/edits
 
 # made anew where something of the layers has changed; what rt itself keeps in a crate's out/ aside
-LAYERS = octets condition wording list access sidebyside inherit tree script capi capi_c
-PROGRAM = octets condition list inherit tree script axs
+LAYERS = octets refusal condition wording list access sidebyside inherit tree script capi capi_c
+PROGRAM = octets refusal condition list inherit tree script axs
 files_of = $(shell find $(1:%=crates/%) -name out -prune -o -type f -print)
 lib: libpipeteasel.a
 libpipeteasel.a: crates.txt $(call files_of,$(LAYERS))

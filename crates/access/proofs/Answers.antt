@@ -13,16 +13,17 @@ use Rattle.list.specs.Entry.{access, kind_of, sid_of}
 use Rattle.list.specs.List.{MaybeList, entries_of, check_of}
 use Rattle.list.specs.Good.{Every}
 use Rattle.list.specs.Spare.{bare, Sized}
-use Rattle.list.specs.declared.lists.Reading.{Reading}
-use Rattle.list.specs.declared.lists.Reading.TheVariants.{Done as Read, Refused as Unread}
+use Rattle.list.specs.declared.readings.Read.{Read}
+use Rattle.refusal.specs.declared.Fault.{Fault}
 use Rattle.list.proofs.Spare.{bare_reading, bare-reads, bare-entries}
-use Rattle.access.specs.declared.Access.TheVariants.{Yes}
 use Rattle.access.specs.Held.{held_of, reaches_end}
 use Rattle.access.specs.Open.{Question, is_allow, opens_by, opens, may_open_of}
 use Rattle.access.specs.Said.{asking, holding, ordinary_of}
-use Rattle.access.specs.Inner.Decide.{lent_fault, told_by}
+use Rattle.access.specs.Inner.Decide.{lent_fault}
+use Rattle.refusal.specs.declared.Refusal.{Refusal}
+use Rattle.std.specs.Prelude.{Result, Ok, Err}
 use Rattle.access.proofs.Holds.{held-sids, held-built, built-whole}
-use Rattle.access.proofs.Opens.{wants-generic, without-list, unread, read, fine-fault}
+use Rattle.access.proofs.Opens.{told_by, wants-generic, without-list, unread, read, fine-fault}
 use Rattle.access.proofs.Theorems.{yes-exactly, more-held, placeholders-unseen}
 
 -- ---- more SIDs held
@@ -36,7 +37,7 @@ EveryEntry P (some s) = Every P (entries_of s)
 pub answer-more : (q : Question) (h : List ℕ) → reaches_end h ≡ true → length (held_of h) ≤ 32
     → ((x : List ℕ) → among x (held_of q.held) ≡ true → among x (held_of h) ≡ true)
     → EveryEntry (λ e. among (sid_of e) (held_of h) ≡ true → among (sid_of e) (held_of q.held) ≡ false → is_allow (kind_of e) ≡ true) q.list
-    → may_open_of q ≡ Yes → may_open_of (holding q h) ≡ Yes
+    → may_open_of q ≡ Ok true → may_open_of (holding q h) ≡ Ok true
 unfolding opens
 answer-more q h e n more only y =
     let m = (yes-exactly q).0 y in
@@ -64,13 +65,13 @@ unfolding bare_reading
 spare-unopened q s z e =
     by-generic q.wanted (λ g. wants-generic (asking q (some (bare access s))) g ∙ sym (wants-generic q g)) (λ g. by g (check_of access s) refl (bare-reads access s z))
   where
-    by : has 0xF0000000 q.wanted ≡ false → (r : Reading) → check_of access s ≡ r → check_of access (bare access s) ≡ bare_reading (check_of access s)
+    by : has 0xF0000000 q.wanted ≡ false → (r : Result Read Fault) → check_of access s ≡ r → check_of access (bare access s) ≡ bare_reading (check_of access s)
         → may_open_of (asking q (some (bare access s))) ≡ may_open_of q
-    by g (Read l n x) c d =
-        read (asking q (some (bare access s))) g (bare access s) refl x n x (d ∙ ap bare_reading c)
+    by g (Ok r) c d =
+        read (asking q (some (bare access s))) g (bare access s) refl r.end r.count r.end (d ∙ ap bare_reading c)
         ∙ ap (λ (es : List (List ℕ)). told_by (lent_fault q.held q.table) (opens_by q.type q.table (held_of q.held) q.wanted es)) (bare-entries access s z)
-        ∙ sym (read q g s e l n x c)
-    by g (Unread k at) c d = unread (asking q (some (bare access s))) g (bare access s) refl k at (d ∙ ap bare_reading c) ∙ sym (unread q g s e k at c)
+        ∙ sym (read q g s e r.length r.count r.end c)
+    by g (Err fault) c d = unread (asking q (some (bare access s))) g (bare access s) refl fault (d ∙ ap bare_reading c) ∙ sym (unread q g s e fault c)
 
 -- ---- placeholders
 
@@ -117,13 +118,13 @@ module _ (q : Question) (fine : reaches_end q.held ≡ true) (few : length (held
     where
       on : has 0xF0000000 q.wanted ≡ false → (list : MaybeList) → q.list ≡ list → EveryEntry (λ e. placeholder_of (sid_of e) ≡ 0) list
           → may_open_of without_them ≡ may_open_of q
-      on g none e a = without-list without_them g e ∙ ap (λ (f : ℕ). told_by f true) no-fault-either ∙ sym (without-list q g e)
+      on g none e a = without-list without_them g e ∙ ap (λ (f : Result Unit Refusal). told_by f true) no-fault-either ∙ sym (without-list q g e)
       on g (some s) e a = by (check_of access s) refl
         where
-          by : (r : Reading) → check_of access s ≡ r → may_open_of without_them ≡ may_open_of q
-          by (Unread k at) c = unread without_them g s e k at c ∙ sym (unread q g s e k at c)
-          by (Read l n x) c =
-              read without_them g s e l n x c
-              ∙ ap₂ (λ (f : ℕ) (ss : List (List ℕ)). told_by f (opens_by q.type q.table ss q.wanted (entries_of s))) no-fault-either (held-built ordinary are-sids)
+          by : (r : Result Read Fault) → check_of access s ≡ r → may_open_of without_them ≡ may_open_of q
+          by (Err fault) c = unread without_them g s e fault c ∙ sym (unread q g s e fault c)
+          by (Ok r) c =
+              read without_them g s e r.length r.count r.end c
+              ∙ ap₂ (λ (f : Result Unit Refusal) (ss : List (List ℕ)). told_by f (opens_by q.type q.table ss q.wanted (entries_of s))) no-fault-either (held-built ordinary are-sids)
               ∙ ap (told_by (lent_fault q.held q.table)) (sym (placeholders-unseen q.type q.table (held_of q.held) q.wanted (entries_of s) a))
-              ∙ sym (read q g s e l n x c)
+              ∙ sym (read q g s e r.length r.count r.end c)

@@ -20,7 +20,6 @@ use Rattle.access.specs.Held.{held_of}
 use Rattle.access.specs.Open.{Question, inherit_only, type_counts, is_allow, said_counts, condition_counts, applies, entry_counts, granted, opens_by, opens, may_open_of}
 use Rattle.access.specs.Said.{spoken}
 use Rattle.access.proofs.Bitwise.{both_hold, each_same}
-use Rattle.access.proofs.Weighs.{plain-counts, unconditional, conditioned}
 use Rattle.access.proofs.Wanted.{wanted-same, granted-here, granted-on, opens_at}
 use Rattle.access.proofs.Theorems.{uncounted-unseen}
 use Rattle.access.proofs.Answers.{EveryEntry}
@@ -35,6 +34,21 @@ no-object k c = by (eqb k 9) refl
     by : (b : Bool) → eqb k 9 ≡ b → (eqb k 5 || eqb k 6) ≡ false
     by true e = ap (λ (x : ℕ). eqb x 5 || eqb x 6) (eqb-true k 9 e)
     by false e = ap (λ (x : ℕ). eqb x 5 || eqb x 6) (eqb-true k 10 (rw e at c))
+
+-- an entry of another type counts whatever the ObjectType
+pub plain-counts : (type e : List ℕ) → object_kind (kind_of e) ≡ false → type_counts type e ≡ true
+unfolding type_counts
+plain-counts type e h = rw h
+
+-- whether its condition counts: there is none; or what it says decides
+module _ (table e : List ℕ) where
+  pub unconditional : conditional_kind (kind_of e) ≡ false → condition_counts table e ≡ true
+  unfolding condition_counts
+  unconditional h = rw h
+
+  pub conditioned : conditional_kind (kind_of e) ≡ true → condition_counts table e ≡ said_counts (said_by (tail_of e) table) (is_allow (kind_of e))
+  unfolding condition_counts
+  conditioned h = rw h
 
 -- type and expression decide whether a condition counts
 pub alike-counts : (table x e : List ℕ) → kind_of x ≡ kind_of e → tail_of x ≡ tail_of e → condition_counts table x ≡ condition_counts table e

@@ -2,7 +2,7 @@
 use mathlib.Core.Path.{◌≡◌, refl, sym, ap, ◌∙◌}
 use mathlib.Core.Bool.{Bool, true, false, not, cond, ◌&&◌}
 use mathlib.Core.List.{List, [], ◌∷◌}
-use mathlib.Core.Option.{none, some}
+use Rattle.std.specs.Prelude.{None, Some}
 use Prim.Native.Nat.{ℕ, ◌^◌, ◌<◌}
 use native.Mathlib.Omega.{arith}
 use lib.Dec.{eqb}
@@ -79,7 +79,7 @@ module _ (type table : List ℕ) (sids : List (List ℕ)) where
 
     module _ (b : left < 2 ^ 32) (on : (l : ℕ) → l < 2 ^ 32 → decided type table sids l es ≡ opens_by type table sids l es) where
       after : (w a : Bool) → weighs type table sids left e ≡ w → is_allow (kind_of e) ≡ a
-          → if_left (cond w (cond a (some (without left (mask_of e))) none) (some left)) (λ l. decided type table sids l es) ≡ opens_by type table sids left (e ∷ es)
+          → if_left (cond w (cond a (Some (without left (mask_of e))) None) (Some left)) (λ l. decided type table sids l es) ≡ opens_by type table sids left (e ∷ es)
       unfolding if_left weighs
       after false a w k = on left b ∙ passed w
       after true false w k = sym (denied b w k)

@@ -1,21 +1,25 @@
 -- The held SIDs: one after the other, however they are counted; which bytes are SIDs to their end; and how the code counts and compares them.
-use mathlib.Core.Path.{◌≡◌, refl, sym, ap, ap₂, ◌∙◌}
-use mathlib.Core.Bool.{Bool, true, false, ◌||◌}
+use mathlib.Core.Path.{◌≡◌, refl, sym, ap, ◌∙◌}
+use mathlib.Core.Bool.{Bool, true, false}
 use mathlib.Core.List.{List, [], ◌∷◌, ◌++◌, append_assoc, append-nil, flatten}
 use Prim.Native.Nat.{ℕ, zero, suc, ◌+◌, ◌-◌, ◌*◌, ◌≤◌, ◌<◌}
 use native.Mathlib.Nat.{not-suc-le-zero}
 use native.Mathlib.Omega.{arith}
 use lib.ListN.{length, get_or, take, drop, length-append, length-drop, drop_of_length-le, take-append-drop}
-use lib.Seq.{get_or-drop, drop-drop, drop_at, take_at, length-take-le}
+use lib.Seq.{drop-drop, drop_at, take_at, length-take-le}
 use borrow.Author.Tests.{eq-eqb, ne_eqb, le-leb, lt-leb, lt-ltb, le-ltb, eqb-true}
 use Rattle.octets.specs.Order.{need}
-use Rattle.octets.specs.Bytes.{same_bytes, among}
+use Rattle.octets.specs.Bytes.{same_bytes}
 use Rattle.list.specs.Identity.{is_sid, whole_sid}
 use Rattle.list.specs.Good.{Every}
 use Rattle.octets.proofs.Places.{split}
+use Rattle.octets.proofs.Tests.{off}
+use Rattle.octets.proofs.Same.{same-no}
 use Rattle.list.proofs.Sids.{whole-short, whole-sid, whole_says, whole-joined, one-sid, sid-length}
 use Rattle.access.specs.Held.{sids_in, held_of, reaches_end}
-use Rattle.access.specs.Inner.Decide.{held_fault}
+use Rattle.access.specs.Inner.Decide.{fine, held_fault}
+use Rattle.refusal.specs.declared.Refusal.TheVariants.{Identity, Types}
+use Rattle.std.specs.Prelude.{◌==◌, Err}
 
 -- ---- one after the other
 
@@ -120,119 +124,99 @@ held-built ss a = built (length (flatten ss)) ss a (fewer ss a)
 pub built-whole : (ss : List (List ℕ)) → Every (λ s. is_sid s ≡ true) ss → reaches_end (flatten ss) ≡ true
 built-whole ss a = eq-eqb _ _ (ap (λ (x : List (List ℕ)). length (flatten x)) (held-built ss a))
 
+-- ---- whether some are left
+
+pub is-empty : (b : Bool) (n : ℕ) → b ≡ (n == 0) → b ≡ true → n ≡ 0
+is-empty b n e t = eqb-true n 0 (sym e ∙ t)
+
+pub not-empty : (b : Bool) (n : ℕ) → b ≡ (n == 0) → b ≡ false → 0 < n
+not-empty b n e f = split n 0 (λ l. let z : n ≡ 0 = omega arith in absurd (off (eq-eqb n 0 z) (sym e ∙ f))) (λ l. l)
+
 -- ---- counting them
 
--- `count` of them lie before `at`
-pub record Counted (h : List ℕ) (at count : ℕ) : Type 0 where
-  pub within : at ≤ length h
-  pub few : count ≤ at
-  pub number : length (held_of h) ≡ count + length (held_of (drop at h))
-  pub bytes : length (flatten (held_of h)) ≡ at + length (flatten (held_of (drop at h)))
+-- `count` of them are gone past, and t is left of h
+pub record Counted (h t : List ℕ) (count : ℕ) : Type 0 where
+  pub few : count + length t ≤ length h
+  pub number : length (held_of h) ≡ count + length (held_of t)
+  pub bytes : length (flatten (held_of h)) + length t ≡ length h + length (flatten (held_of t))
 
-pub counted_none : (h : List ℕ) → Counted h 0 0
-counted_none h = record { within = omega arith; few = omega arith; number = omega arith; bytes = omega arith }
+pub counted_none : (h : List ℕ) → Counted h h 0
+counted_none h = record { few = omega arith; number = omega arith; bytes = omega arith }
 
-module _ (h : List ℕ) (at count : ℕ) (c : Counted h at count) where
-  pub counted-more : 0 < whole_sid (drop at h) → Counted h (at + whole_sid (drop at h)) (count + 1)
+module _ (h t : List ℕ) (count : ℕ) (c : Counted h t count) where
+  pub counted-more : 0 < whole_sid t → Counted h (drop (whole_sid t) t) (count + 1)
   unfolding flatten
   counted-more p =
-      let t = drop at h in
       let k = whole_sid t in
       let w = whole-sid t p in
       let e = held_more t p in
-      let d = length-drop at h in
-      let r : held_of (drop (at + k) h) ≡ held_of (drop k t) = ap held_of (sym (drop-drop k at h)) in
+      let d = length-drop k t in
       let a = length-append (take k t) (flatten (held_of (drop k t))) in
       record {
-        within = omega (arith, w.most, c.within, d);
-        few = omega (arith, w.least, c.few);
-        number = rw r (omega (arith, c.number, ap length e));
-        bytes = rw r (omega (arith, c.bytes, ap (λ (x : List (List ℕ)). length (flatten x)) e, a, length-take-le k t w.most));
+        few = omega (arith, w.least, w.most, c.few, d);
+        number = omega (arith, c.number, ap length e);
+        bytes = omega (arith, c.bytes, ap (λ (x : List (List ℕ)). length (flatten x)) e, a, d, w.most, length-take-le k t w.most);
       }
 
   -- bytes are left in which no SID begins
-  pub counted-bad : at < length h → whole_sid (drop at h) ≡ 0 → held_fault h ≡ 6
+  pub counted-bad : 0 < length t → whole_sid t ≡ 0 → held_fault h ≡ Err Identity
   unfolding held_fault need flatten
   counted-bad p e =
-      let z : length (flatten (held_of (drop at h))) ≡ 0 = ap (λ (x : List (List ℕ)). length (flatten x)) (held_none (drop at h) e) in
+      let z : length (flatten (held_of t)) ≡ 0 = ap (λ (x : List (List ℕ)). length (flatten x)) (held_none t e) in
       rw (ne_eqb (length (flatten (held_of h))) (length h) (λ q. omega (arith, c.bytes)))
 
-  module _ (end : length h ≤ at) where
-    none_left : held_of (drop at h) ≡ []
-    none_left = held_none (drop at h) (whole-short (drop at h) (omega (arith, length-drop at h)))
+  module _ (end : length t ≡ 0) where
+    none_left : held_of t ≡ []
+    none_left = held_none t (whole-short t (omega arith))
 
     to_end : length (flatten (held_of h)) ≡ length h
     unfolding flatten
-    to_end = omega (arith, c.bytes, ap (λ (x : List (List ℕ)). length (flatten x)) none_left, c.within)
+    to_end = omega (arith, c.bytes, ap (λ (x : List (List ℕ)). length (flatten x)) none_left)
 
     all : length (held_of h) ≡ count
     all = omega (arith, c.number, ap length none_left)
 
-    pub counted-many : 32 < count → held_fault h ≡ 7
+    pub counted-many : 32 < count → held_fault h ≡ Err Types
     unfolding held_fault need
     counted-many p = rw (eq-eqb _ _ to_end, all, lt-leb count 32)
 
-    pub counted-fine : count ≤ 32 → held_fault h ≡ 0
+    pub counted-fine : count ≤ 32 → held_fault h ≡ fine
     unfolding held_fault need
     counted-fine p = rw (eq-eqb _ _ to_end, all, le-leb count 32)
 
 -- ---- comparing them
 
--- none before `at` is s; those from there on are SIDs to their end
-pub record Looks (s h : List ℕ) (at : ℕ) : Type 0 where
-  pub within : at ≤ length h
-  pub same : among s (held_of h) ≡ among s (held_of (drop at h))
-  pub rest : at + length (flatten (held_of (drop at h))) ≡ length h
+-- bytes differ that have another byte at the same place before their ends
+pub other-byte : (k : ℕ) (a b : List ℕ) → (get_or a (length a - k) 0 ≡ get_or b (length b - k) 0 → ⊥) → same_bytes a b ≡ false
+other-byte k a b f = same-no a b (λ e. f (ap (λ (x : List ℕ). get_or x (length x - k) 0) e))
 
-pub looks-none : (s h : List ℕ) → reaches_end h ≡ true → Looks s h 0
-looks-none s h e = record { within = omega arith; same = refl; rest = omega (arith, eqb-true (length (flatten (held_of h))) (length h) e) }
+-- held bytes that are SIDs to their end: none is left, or the next one, by its second byte
+pub held-none : (h : List ℕ) → length h ≡ 0 → held_of h ≡ []
+held-none h l = held_none h (whole-short h (omega arith))
 
-module _ (s h : List ℕ) (at : ℕ) (k : Looks s h at) where
-  pub looks-end : length h ≤ at → among s (held_of h) ≡ false
-  unfolding among
-  looks-end l = k.same ∙ ap (among s) (held_none (drop at h) (whole-short (drop at h) (omega (arith, length-drop at h))))
+module _ (h : List ℕ) (e : reaches_end h ≡ true) (some : 0 < length h) where
+  bytes_of : length (flatten (held_of h)) ≡ length h
+  bytes_of = eqb-true _ _ e
 
-  module _ (some : at < length h) where
-    here : 0 < whole_sid (drop at h)
-    unfolding flatten
-    here = by_whole (drop at h) (λ e. absurd (omega (arith, k.rest, ap (λ (x : List (List ℕ)). length (flatten x)) (held_none (drop at h) e)))) (λ p. p)
+  here : 0 < whole_sid h
+  unfolding flatten
+  here = by_whole h (λ z. absurd (omega (arith, bytes_of, ap (λ (x : List (List ℕ)). length (flatten x)) (held_none h z)))) (λ p. p)
 
-    -- the next one, by its second byte
-    pub record Next (end : ℕ) : Type 0 where
-      pub long : at + 8 ≤ end
-      pub inside : end ≤ length h
-      pub is : end - at ≡ whole_sid (drop at h)
+  abbrev next : ℕ
+  next = 8 + 4 * get_or h 1 0
 
-    pub looks-next : Next (at + 8 + 4 * get_or h (at + 1) 0)
-    looks-next =
-        let t = drop at h in
-        let w = whole-sid t here in
-        let e : whole_sid t ≡ 8 + 4 * get_or h (at + 1) 0 = whole_says t here ∙ ap (λ (n : ℕ). 8 + 4 * n) (get_or-drop at h 1 0) in
-        record { long = omega arith; inside = omega (arith, e, w.most, length-drop at h); is = omega (arith, e) }
+  next-is : next ≡ whole_sid h
+  next-is = sym (whole_says h here)
 
-    module _ (end : ℕ) (n : Next end) where
-      rest_of : among s (held_of (drop at h)) ≡ (same_bytes (take (end - at) (drop at h)) s || among s (held_of (drop end h)))
-      unfolding among
-      rest_of =
-          let t = drop at h in
-          let m : at + whole_sid t ≡ end = omega (arith, n.is, n.long) in
-          ap (among s) (held_more t here)
-          ∙ ap₂ (λ (x : ℕ) (u : List ℕ). same_bytes (take x t) s || among s (held_of u)) (sym n.is) (drop-drop (whole_sid t) at h ∙ ap (λ (x : ℕ). drop x h) m)
+  pub next-inside : next ≤ length h
+  next-inside = omega (arith, next-is, (whole-sid h here).most)
 
-      pub looks-found : same_bytes (take (end - at) (drop at h)) s ≡ true → among s (held_of h) ≡ true
-      looks-found e = k.same ∙ rest_of ∙ ap (λ (b : Bool). b || among s (held_of (drop end h))) e
+  pub held-next : held_of h ≡ take next h ∷ held_of (drop next h)
+  held-next = held_more h here ∙ ap (λ (n : ℕ). take n h ∷ held_of (drop n h)) (sym next-is)
 
-      pub looks-more : same_bytes (take (end - at) (drop at h)) s ≡ false → Looks s h end
-      unfolding flatten
-      looks-more e =
-          let t = drop at h in
-          let m : at + whole_sid t ≡ end = omega (arith, n.is, n.long) in
-          let d : drop (whole_sid t) t ≡ drop end h = drop-drop (whole_sid t) at h ∙ ap (λ (x : ℕ). drop x h) m in
-          let w = whole-sid t here in
-          let f : length (flatten (held_of t)) ≡ length (take (whole_sid t) t ++ flatten (held_of (drop end h))) =
-          ap (λ (x : List (List ℕ)). length (flatten x)) (held_more t here) ∙ ap (λ (u : List ℕ). length (take (whole_sid t) t ++ flatten (held_of u))) d in
-          record {
-            within = n.inside;
-            same = k.same ∙ rest_of ∙ ap (λ (b : Bool). b || among s (held_of (drop end h))) e;
-            rest = omega (arith, k.rest, f, length-append (take (whole_sid t) t) (flatten (held_of (drop end h))), length-take-le (whole_sid t) t w.most);
-          }
+  pub rest-whole : reaches_end (drop next h) ≡ true
+  unfolding flatten
+  rest-whole =
+      let f : length (flatten (held_of h)) ≡ length (take next h ++ flatten (held_of (drop next h))) = ap (λ (x : List (List ℕ)). length (flatten x)) held-next in
+      eq-eqb _ _
+      (omega (arith, bytes_of, f, length-append (take next h) (flatten (held_of (drop next h))), length-take-le next h next-inside, length-drop next h, next-inside))

@@ -10,27 +10,25 @@ use Rattle.octets.specs.Bytes.{Bytes}
 use Rattle.list.specs.Entry.{access, size_of, fields_of}
 use Rattle.list.specs.List.{rev_of, entries_of, check_of}
 use Rattle.list.specs.Good.{Whole, Every}
-use Rattle.list.specs.declared.entries.Entry.{Entry}
-use Rattle.list.specs.declared.lists.Reading.{Reading}
-use Rattle.list.specs.declared.lists.Reading.TheVariants.{Done as Read, Refused as Unread}
+use Rattle.list.specs.declared.readings.Read.{Read}
+use Rattle.refusal.specs.declared.Fault.{Fault}
 use Rattle.list.proofs.Told.{told}
 use Rattle.list.proofs.Parts.{laid}
 use Rattle.list.proofs.Spare.{end-within, bytes-sized}
 use Rattle.list.proofs.Remade.{bounds}
 use Rattle.access.specs.declared.steps.Found.{Found}
-use Rattle.access.specs.declared.steps.Found.TheVariants.{At, End}
-use Rattle.access.specs.declared.Pointed.TheVariants.{Done}
-use Rattle.access.specs.Walk.{walk_over, walk_through, first_from, on_walk, pointed_of}
+use Rattle.std.specs.Prelude.{Option, Some, None, Result, Ok, Err}
+use Rattle.access.specs.Walk.{found_at, walk_over, walk_through, first_from, on_walk, pointed_of}
 
 -- the parts of an entry lie inside it, and it ends at the next place, which is at most `most`
-pub record Inside (most at : ℕ) (e : Entry) (next : ℕ) : Type 0 where
-  pub sid : e.sid + e.sid_len ≤ e.size
-  pub ends : next ≡ at + e.size
-  pub last : next ≤ most
+pub record Inside (most : ℕ) (f : Found) : Type 0 where
+  pub sid : f.entry.sid + f.entry.sid_len ≤ f.entry.size
+  pub ends : f.next ≡ f.at + f.entry.size
+  pub last : f.next ≤ most
 
-abbrev InsideIf : ℕ → Found → Type 0
-InsideIf most (At at e next) = Inside most at e next
-InsideIf most End = Unit
+abbrev InsideIf : ℕ → Option Found → Type 0
+InsideIf most (Some f) = Inside most f
+InsideIf most None = Unit
 
 first-inside : (rev place o most : ℕ) (es : List (List ℕ)) → Every (Whole access rev) es → o + length (flatten es) ≤ most → InsideIf most (first_from place (walk_over o es))
 unfolding first_from walk_over flatten
@@ -42,21 +40,22 @@ first-inside rev place o most (e ∷ es) ws h =
     (record { sid = b.sid; ends = refl; last = omega (arith, ws.0.whole) })
     (first-inside rev place (o + size_of e) most es ws.1 (omega (arith, ws.0.whole)))
   where
-    by : (c : Bool) → Inside most o (fields_of e) (o + size_of e) → InsideIf most (first_from place (walk_over (o + size_of e) es))
-        → InsideIf most (cond c (At o (fields_of e) (o + size_of e)) (first_from place (walk_over (o + size_of e) es)))
+    by : (c : Bool) → Inside most (found_at o (fields_of e)) → InsideIf most (first_from place (walk_over (o + size_of e) es))
+        → InsideIf most (cond c (Some (found_at o (fields_of e))) (first_from place (walk_over (o + size_of e) es)))
     by true p q = p
     by false p q = q
 
-pub pointed-small : (s : List ℕ) (place at : ℕ) (e : Entry) (next : ℕ) → Bytes s → pointed_of s place ≡ Done (At at e next) → Inside 65535 at e next
+pub pointed-small : (s : List ℕ) (place : ℕ) (f : Found) → Bytes s → pointed_of s place ≡ Ok (Some f) → Inside 65535 f
 unfolding on_walk
-pointed-small s place at e next d h = by (check_of access s) refl h
+pointed-small s place f d h = by (check_of access s) refl h
   where
-    by : (r : Reading) → check_of access s ≡ r → on_walk r (first_from place (walk_through s)) ≡ Done (At at e next) → Inside 65535 at e next
-    by (Read l n x) q k =
-        let t = told access s l n x q in
+    by : (r : Result Read Fault) → check_of access s ≡ r → on_walk r (first_from place (walk_through s)) ≡ Ok (Some f) → Inside 65535 f
+    by (Ok r) q k =
+        let n = r.count in
+        let t = told access s r.length n r.end q in
         let g = laid access s n t.listed in
-        let z = bytes-sized access s d l n x q in
-        let f : first_from place (walk_through s) ≡ At at e next = cc in
-        let i = first-inside (rev_of s) place 8 65535 (entries_of s) g.wholes (omega (arith, end-within access s l n x q, t.end, g.ends)) in
-        subst (InsideIf 65535) f i
-    by (Unread j o) q k = let z : ◌≡◌ {A = ℕ} 0 1 = cc in absurd (omega arith)
+        let z = bytes-sized access s d r.length n r.end q in
+        let e : first_from place (walk_through s) ≡ Some f = cc in
+        let i = first-inside (rev_of s) place 8 65535 (entries_of s) g.wholes (omega (arith, end-within access s r.length n r.end q, t.end, g.ends)) in
+        subst (InsideIf 65535) e i
+    by (Err j) q k = let z : ◌≡◌ {A = ℕ} 0 1 = cc in absurd (omega arith)

@@ -16,16 +16,18 @@ use Rattle.condition.specs.Table.{table_ok}
 use Rattle.list.specs.Entry.{access, kind_of, mask_of, sid_of}
 use Rattle.list.specs.Identity.{placeholder_of}
 use Rattle.list.specs.Good.{Every}
-use Rattle.list.specs.List.{MaybeList, entries_of, check_of}
-use Rattle.list.specs.declared.lists.Reading.{Reading}
-use Rattle.list.specs.declared.lists.Reading.TheVariants.{Done as Read, Refused as Unread}
+use Rattle.list.specs.List.{MaybeList, entries_of, read_as, check_of}
+use Rattle.list.specs.declared.readings.Read.{Read}
+use Rattle.refusal.specs.declared.Fault.{Fault}
+use Rattle.refusal.specs.Faults.{plain}
+use Rattle.refusal.specs.declared.Refusal.{Refusal}
+use Rattle.refusal.specs.declared.Refusal.TheVariants.{Identity, Types, Generic, Table}
+use Rattle.std.specs.Prelude.{Result, Ok, Err}
 use Rattle.octets.proofs.Bits.{has-or, generic-or}
 use Rattle.octets.proofs.Tests.{both_true, false-or, off}
 use Rattle.octets.proofs.Same.{same_true}
-use Rattle.access.specs.declared.Access.{Access}
-use Rattle.access.specs.declared.Access.TheVariants.{Yes, Refused}
 use Rattle.access.specs.Held.{held_of, reaches_end}
-use Rattle.access.specs.Open.{Question, inherit_only, applies, entry_counts, is_allow, granted, opens_by, opens, on_read, read_first, yes_or_no, may_open_of}
+use Rattle.access.specs.Open.{Question, inherit_only, applies, entry_counts, is_allow, granted, opens_by, opens, on_read, read_first, may_open_of}
 use Rattle.access.specs.Said.{spoken, ordinary_of, asks}
 use Rattle.access.proofs.Bitwise.{both_hold, both_ways}
 use Rattle.access.proofs.Wanted.{granted-here, granted-on, opens-all, opens_at, opens-same}
@@ -208,7 +210,7 @@ pub record ReadsDone (s : List ℕ) : Type 0 where
   pub len : ℕ
   pub count : ℕ
   pub end : ℕ
-  pub done : check_of access s ≡ Read len count end
+  pub done : check_of access s ≡ read_as len count end
 
 abbrev pub DoneOrAbsent : MaybeList → Type 0
 DoneOrAbsent none = Unit
@@ -223,61 +225,60 @@ pub record MayOpen (q : Question) : Type 0 where
   pub made : table_ok q.table ≡ true
   pub opened : opens q q.list ≡ true
 
-no-yes : (k at : ℕ) → Refused k at ≡ Yes → ⊥
-no-yes k at e = let z : ◌≡◌ {A = ℕ} 0 1 = cc in omega arith
+no-yes : (fault : Fault) → Err fault ≡ Ok true → ⊥
+no-yes fault e = let z : ◌≡◌ {A = ℕ} 0 1 = cc in omega arith
 
-need-yes : (b : Bool) (k : ℕ) (rest : Access) → need b (Refused k 0) rest ≡ Yes → (b ≡ true) × (rest ≡ Yes)
+need-yes : (b : Bool) (k : Refusal) (rest : Result Bool Fault) → need b (Err (plain k)) rest ≡ Ok true → (b ≡ true) × (rest ≡ Ok true)
 unfolding need
 need-yes true k rest e = (refl, e)
-need-yes false k rest e = absurd (no-yes k 0 e)
+need-yes false k rest e = absurd (no-yes (plain k) e)
 
-yes-need : (b : Bool) (k : ℕ) (rest : Access) → b ≡ true → rest ≡ Yes → need b (Refused k 0) rest ≡ Yes
+yes-need : (b : Bool) (k : Refusal) (rest : Result Bool Fault) → b ≡ true → rest ≡ Ok true → need b (Err (plain k)) rest ≡ Ok true
 unfolding need
 yes-need b k rest t e = rw (t, e)
 
-told-yes : (b : Bool) → yes_or_no b ≡ Yes → b ≡ true
-told-yes true e = refl
-told-yes false e = let z : ◌≡◌ {A = ℕ} 0 1 = cc in absurd (omega arith)
+told-yes : (b : Bool) → ◌≡◌ {A = Result Bool Fault} (Ok b) (Ok true) → b ≡ true
+told-yes b e = cc
 
-read-yes : (list : MaybeList) (rest : Access) → read_first list rest ≡ Yes → DoneOrAbsent list × (rest ≡ Yes)
+read-yes : (list : MaybeList) (rest : Result Bool Fault) → read_first list rest ≡ Ok true → DoneOrAbsent list × (rest ≡ Ok true)
 unfolding read_first on_read
 read-yes none rest e = (tt, e)
 read-yes (some s) rest e = by (check_of access s) refl e
   where
-    by : (r : Reading) → check_of access s ≡ r → on_read r rest ≡ Yes → ReadsDone s × (rest ≡ Yes)
-    by (Read len n end) c e = (record { len = len; count = n; end = end; done = c }, e)
-    by (Unread k at) c e = absurd (no-yes k at e)
+    by : (r : Result Read Fault) → check_of access s ≡ r → on_read r rest ≡ Ok true → ReadsDone s × (rest ≡ Ok true)
+    by (Ok r) c e = (record { len = r.length; count = r.count; end = r.end; done = c }, e)
+    by (Err fault) c e = absurd (no-yes fault e)
 
-yes-read : (list : MaybeList) (rest : Access) → DoneOrAbsent list → rest ≡ Yes → read_first list rest ≡ Yes
+yes-read : (list : MaybeList) (rest : Result Bool Fault) → DoneOrAbsent list → rest ≡ Ok true → read_first list rest ≡ Ok true
 unfolding read_first on_read
 yes-read none rest d e = e
 yes-read (some s) rest d e = rw d.done e
 
 -- the answer is yes exactly if no generic bit is wanted, the list has no fault or is absent, the held bytes and the table have none, and each wanted bit is
 -- granted
-pub yes-exactly : (q : Question) → (may_open_of q ≡ Yes) ↔ MayOpen q
+pub yes-exactly : (q : Question) → (may_open_of q ≡ Ok true) ↔ MayOpen q
 unfolding may_open_of
 yes-exactly q = (to, from)
   where
-    rest₄ : Access
-    rest₄ = yes_or_no (opens q q.list)
+    rest₄ : Result Bool Fault
+    rest₄ = Ok (opens q q.list)
 
-    rest₃ : Access
-    rest₃ = need (table_ok q.table) (Refused 23 0) rest₄
+    rest₃ : Result Bool Fault
+    rest₃ = need (table_ok q.table) (Err (plain Table)) rest₄
 
-    rest₂ : Access
-    rest₂ = need (leb (length (held_of q.held)) 32) (Refused 7 0) rest₃
+    rest₂ : Result Bool Fault
+    rest₂ = need (leb (length (held_of q.held)) 32) (Err (plain Types)) rest₃
 
-    rest₁ : Access
-    rest₁ = need (reaches_end q.held) (Refused 6 0) rest₂
+    rest₁ : Result Bool Fault
+    rest₁ = need (reaches_end q.held) (Err (plain Identity)) rest₂
 
-    to : may_open_of q ≡ Yes → MayOpen q
+    to : may_open_of q ≡ Ok true → MayOpen q
     to e =
-        let f₁ = need-yes (not (has 0xF0000000 q.wanted)) 14 (read_first q.list rest₁) e in
+        let f₁ = need-yes (not (has 0xF0000000 q.wanted)) Generic (read_first q.list rest₁) e in
         let f₂ = read-yes q.list rest₁ f₁.1 in
-        let f₃ = need-yes (reaches_end q.held) 6 rest₂ f₂.1 in
-        let f₄ = need-yes (leb (length (held_of q.held)) 32) 7 rest₃ f₃.1 in
-        let f₅ = need-yes (table_ok q.table) 23 rest₄ f₄.1 in
+        let f₃ = need-yes (reaches_end q.held) Identity rest₂ f₂.1 in
+        let f₄ = need-yes (leb (length (held_of q.held)) 32) Types rest₃ f₃.1 in
+        let f₅ = need-yes (table_ok q.table) Table rest₄ f₄.1 in
         record {
           specific = not-true (has 0xF0000000 q.wanted) f₁.0;
           reads = f₂.0;
@@ -287,14 +288,14 @@ yes-exactly q = (to, from)
           opened = told-yes (opens q q.list) f₅.1;
         }
 
-    from : MayOpen q → may_open_of q ≡ Yes
+    from : MayOpen q → may_open_of q ≡ Ok true
     from m =
-        yes-need (not (has 0xF0000000 q.wanted)) 14 (read_first q.list rest₁) (ap not m.specific)
+        yes-need (not (has 0xF0000000 q.wanted)) Generic (read_first q.list rest₁) (ap not m.specific)
         (yes-read q.list rest₁ m.reads
-        (yes-need (reaches_end q.held) 6 rest₂ m.to_end
-        (yes-need (leb (length (held_of q.held)) 32) 7 rest₃ (le-leb (length (held_of q.held)) 32 m.few)
-        (yes-need (table_ok q.table) 23 rest₄ m.made
-        (ap yes_or_no m.opened)))))
+        (yes-need (reaches_end q.held) Identity rest₂ m.to_end
+        (yes-need (leb (length (held_of q.held)) 32) Types rest₃ (le-leb (length (held_of q.held)) 32 m.few)
+        (yes-need (table_ok q.table) Table rest₄ m.made
+        (ap Ok m.opened)))))
 
 opens-or : (q : Question) (a b : ℕ) (list : MaybeList) → opens (asks q (bit_or a b)) list ≡ (opens (asks q a) list && opens (asks q b) list)
 unfolding opens
@@ -306,10 +307,10 @@ none_of true b h = absurd (off refl h)
 none_of false b h = (refl, h)
 
 -- a yes to two masks at once is a yes to each, and back
-pub answer-both : (q : Question) (a b : ℕ) → (may_open_of (asks q (bit_or a b)) ≡ Yes) ↔ ((may_open_of (asks q a) ≡ Yes) × (may_open_of (asks q b) ≡ Yes))
+pub answer-both : (q : Question) (a b : ℕ) → (may_open_of (asks q (bit_or a b)) ≡ Ok true) ↔ ((may_open_of (asks q a) ≡ Ok true) × (may_open_of (asks q b) ≡ Ok true))
 answer-both q a b = (λ e. to ((yes-exactly (asks q (bit_or a b))).0 e), λ e. from ((yes-exactly (asks q a)).0 e.0) ((yes-exactly (asks q b)).0 e.1))
   where
-    to : MayOpen (asks q (bit_or a b)) → (may_open_of (asks q a) ≡ Yes) × (may_open_of (asks q b) ≡ Yes)
+    to : MayOpen (asks q (bit_or a b)) → (may_open_of (asks q a) ≡ Ok true) × (may_open_of (asks q b) ≡ Ok true)
     to m =
         let f = none_of (has 0xF0000000 a) (has 0xF0000000 b) (sym (generic-or a b) ∙ m.specific) in
         let g = both_true (opens (asks q a) q.list) (opens (asks q b) q.list) (sym (opens-or q a b q.list) ∙ m.opened) in (
@@ -317,7 +318,7 @@ answer-both q a b = (λ e. to ((yes-exactly (asks q (bit_or a b))).0 e), λ e. f
           (yes-exactly (asks q b)).1 (record { specific = f.1; reads = m.reads; to_end = m.to_end; few = m.few; made = m.made; opened = g.1 }),
         )
 
-    from : MayOpen (asks q a) → MayOpen (asks q b) → may_open_of (asks q (bit_or a b)) ≡ Yes
+    from : MayOpen (asks q a) → MayOpen (asks q b) → may_open_of (asks q (bit_or a b)) ≡ Ok true
     from m n =
         (yes-exactly (asks q (bit_or a b))).1
         (record {

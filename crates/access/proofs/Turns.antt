@@ -2,12 +2,11 @@
 use mathlib.Core.Path.{◌≡◌, refl, sym, ap, ◌∙◌}
 use mathlib.Core.Bool.{Bool, true, false, not, cond, ◌||◌}
 use mathlib.Core.List.{List, [], ◌∷◌}
-use mathlib.Core.Option.{Option, none, some}
 use Prim.Native.Nat.{ℕ, zero, suc, ◌+◌, ◌-◌, ◌≤◌, ◌<◌}
 use native.Mathlib.Nat.{not-suc-le-zero}
 use native.Mathlib.Omega.{arith}
-use lib.ListN.{length, take, drop, length-drop}
-use lib.Seq.{drop-drop}
+use lib.ListN.{take, drop}
+use lib.Dec.{eqb}
 use borrow.Author.Tests.{eq-eqb, ne_eqb}
 use Rattle.octets.specs.Bytes.{has, same_bytes}
 use Rattle.list.specs.Entry.{access, object_kind, kind_of, word_of, size_of}
@@ -15,10 +14,10 @@ use Rattle.list.specs.List.{cut}
 use Rattle.list.specs.Good.{Sound, Passes}
 use Rattle.list.proofs.Remade.{cut-same, cut-sid, cut-tail, cut-guid, typed_long}
 use Rattle.list.proofs.Rows.{passes-turn}
-use Rattle.access.specs.declared.decide.Turn.TheVariants.{On, Denied}
+use Rattle.std.specs.Prelude.{Some, None}
 use Rattle.access.specs.Open.{type_counts, condition_counts, applies, entry_counts}
-use Rattle.access.specs.Inner.Decide.{SidIn, weighs, left_after, if_left, decided, turn_with}
-use Rattle.access.proofs.Weighs.{sid-in}
+use Rattle.access.specs.Inner.Decide.{weighs, left_after, if_left, decided}
+use Rattle.access.proofs.Weighs.{SidIn, sid-in}
 
 -- ---- what follows a good entry doesn't count
 
@@ -58,67 +57,53 @@ module _ (type table : List ℕ) (sids : List (List ℕ)) where
       let e : suc n - 1 ≡ n = omega arith in
       rw (e, ne_eqb left 0 f, left_cut type table sids rev t s left)
 
+  -- with i of the n entries gone past, t is what is left of s
   module _ (rev : ℕ) (s : List ℕ) (n wanted : ℕ) where
-    pub record Deciding (left at more : ℕ) : Type 0 where
-      pub rest : Passes access rev more (drop at s)
-      pub sofar : decided type table sids left (cut more (drop at s)) ≡ decided type table sids wanted (cut n (drop 8 s))
+    pub record Deciding (left i : ℕ) (t : List ℕ) : Type 0 where
+      pub rest : Passes access rev (n - i) t
+      pub sofar : decided type table sids left (cut (n - i) t) ≡ decided type table sids wanted (cut n s)
 
-    pub deciding-none : Passes access rev n (drop 8 s) → Deciding wanted 8 n
-    deciding-none r = record { rest = r; sofar = refl }
+    pub deciding-none : Passes access rev n s → Deciding wanted 0 s
+    deciding-none r = let z : n - 0 ≡ n = omega arith in record { rest = rw z r; sofar = rw z }
 
-    module _ (left at more : ℕ) (m : Deciding left at more) where
+    module _ (left i : ℕ) (t : List ℕ) (m : Deciding left i t) where
       all-decided : left ≡ 0 → (es : List (List ℕ)) → true ≡ decided type table sids left es
       unfolding decided
       all-decided e [] = sym (eq-eqb left 0 e)
       all-decided e (x ∷ es) = rw (eq-eqb left 0 e)
 
       -- nothing is left to decide
-      pub decides-yes : left ≡ 0 → true ≡ decided type table sids wanted (cut n (drop 8 s))
+      pub decides-yes : left ≡ 0 → true ≡ decided type table sids wanted (cut n s)
       decides-yes e = all-decided e _ ∙ m.sofar
 
-      module _ (f : left ≡ 0 → ⊥) where
-        -- something is left, and no entry
-        pub decides-end : more ≡ 0 → false ≡ decided type table sids wanted (cut n (drop 8 s))
-        unfolding decided cut
-        decides-end z = sym (ne_eqb left 0 f) ∙ sym (ap (λ (k : ℕ). decided type table sids left (cut k (drop at s))) z) ∙ m.sofar
+      -- no entry is left
+      pub decides-end : n ≤ i → eqb left 0 ≡ decided type table sids wanted (cut n s)
+      unfolding decided cut
+      decides-end l =
+          let z : n - i ≡ 0 = omega arith in
+          sym (ap (λ (k : ℕ). decided type table sids left (cut k t)) z) ∙ m.sofar
 
-        module _ (h : 0 < more) where
-          here : Sound access rev (drop at s)
-          here = (passes-turn access rev more (drop at s) h m.rest).0
+      -- something is left, and an entry
+      module _ (f : left ≡ 0 → ⊥) (h : i < n) where
+        here : Sound access rev t
+        here = (passes-turn access rev (n - i) t (omega arith) m.rest).0
 
-          pub inside : at + size_of (drop at s) ≤ length s
-          inside = omega (arith, length-drop at s, here.four, here.within)
+        pub entry-here : SidIn t
+        entry-here = sid-in rev t here
 
-          pub sid-here : SidIn (drop at s)
-          sid-here = sid-in rev (drop at s) here
+        turned : if_left (left_after type table sids left t) (λ l. decided type table sids l (cut (n - (i + 1)) (drop (size_of t) t))) ≡ decided type table sids wanted (cut n s)
+        turned =
+            let z : n - (i + 1) ≡ n - i - 1 = omega arith in
+            rw z (sym (decided-turn rev (n - i) left t (omega arith) f here) ∙ m.sofar)
 
-          turned : if_left (left_after type table sids left (drop at s)) (λ l. decided type table sids l (cut (more - 1) (drop (at + size_of (drop at s)) s)))
-              ≡ decided type table sids wanted (cut n (drop 8 s))
-          turned = rw (← drop-drop (size_of (drop at s)) at s) (sym (decided-turn rev more left (drop at s) h f here) ∙ m.sofar)
+        -- a bit is denied
+        pub decides-no : left_after type table sids left t ≡ None → false ≡ decided type table sids wanted (cut n s)
+        unfolding if_left
+        decides-no e = rw e at turned
 
-          -- a bit is denied
-          pub decides-no : turn_with (left_after type table sids left (drop at s)) ≡ Denied → false ≡ decided type table sids wanted (cut n (drop 8 s))
-          unfolding turn_with if_left
-          decides-no e = by (left_after type table sids left (drop at s)) e turned
-            where
-              by : (o : Option ℕ) → turn_with o ≡ Denied
-                  → if_left o (λ l. decided type table sids l (cut (more - 1) (drop (at + size_of (drop at s)) s))) ≡ decided type table sids wanted (cut n (drop 8 s))
-                  → false ≡ decided type table sids wanted (cut n (drop 8 s))
-              by none d t = t
-              by (some l) d t = let z : ◌≡◌ {A = ℕ} 0 1 = cc in absurd (omega arith)
-
-          -- the next entry decides what is left
-          pub decides-on : (l size : ℕ) → turn_with (left_after type table sids left (drop at s)) ≡ On l → size ≡ size_of (drop at s) → Deciding l (at + size) (more - 1)
-          unfolding turn_with if_left
-          decides-on l size e z =
-              rw z
-              (record {
-                rest = rw (← drop-drop (size_of (drop at s)) at s) (passes-turn access rev more (drop at s) h m.rest).1;
-                sofar = by (left_after type table sids left (drop at s)) e turned;
-              })
-            where
-              by : (o : Option ℕ) → turn_with o ≡ On l
-                  → if_left o (λ k. decided type table sids k (cut (more - 1) (drop (at + size_of (drop at s)) s))) ≡ decided type table sids wanted (cut n (drop 8 s))
-                  → decided type table sids l (cut (more - 1) (drop (at + size_of (drop at s)) s)) ≡ decided type table sids wanted (cut n (drop 8 s))
-              by none d t = let z : ◌≡◌ {A = ℕ} 0 1 = cc in absurd (omega arith)
-              by (some k) d t = let z : l ≡ k = cc in rw z t
+        -- the next entry decides what is left
+        pub decides-on : (l : ℕ) → left_after type table sids left t ≡ Some l → Deciding l (i + 1) (drop (size_of t) t)
+        unfolding if_left
+        decides-on l e =
+            let z : n - (i + 1) ≡ n - i - 1 = omega arith in
+            record { rest = rw z ((passes-turn access rev (n - i) t (omega arith) m.rest).1); sofar = rw e at turned }

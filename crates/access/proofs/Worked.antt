@@ -16,7 +16,7 @@ use Rattle.list.specs.Entry.{plain_of, object_of, object_kind, kind_ok, flags_ok
 use Rattle.list.specs.List.{MaybeList, rev_ok, header_ok, on_good, walk_of, finish, check_of, cut, entries_of, head_bytes, render}
 use Rattle.list.specs.Answer.{Values, done, refused}
 use Rattle.access.specs.declared.steps.Found.{Found}
-use Rattle.access.specs.declared.steps.Found.TheVariants.{At, End}
+use Rattle.std.specs.Prelude.{Some, None}
 use Rattle.access.specs.Held.{sids_in, held_of, reaches_end}
 use Rattle.access.specs.Open.{Question, type_counts, said_counts, condition_counts, applies, entry_counts, is_allow, granted, each_bit, opens_by, opens, on_read, read_first, may_open_of, access_values}
 use Rattle.access.specs.Walk.{walk_over, walk_through, first_from, on_walk, pointed_of, pointed_values, walked_by, walked_of, found_by, past_by, walk_on, walk_from}
@@ -241,14 +241,14 @@ two =
     ∷ (plain 1 0x0B 5 crew ++ (object 6 0x28 2 array her ++ plain 0 0 1 her))
 
 abbrev first_found : Found
-first_found = At 8 (record { kind = 1; flags = 0x0B; size = 20; mask = 5; word = 0; sid = 8; sid_len = 12 }) 28
+first_found = record { at = 8; entry = record { kind = 1; flags = 0x0B; size = 20; mask = 5; word = 0; sid = 8; sid_len = 12 }; next = 28 }
 
 abbrev second_found : Found
-second_found = At 28 (record { kind = 6; flags = 0; size = 40; mask = 1; word = 2; sid = 28; sid_len = 12 }) 68
+second_found = record { at = 28; entry = record { kind = 6; flags = 0; size = 40; mask = 1; word = 2; sid = 28; sid_len = 12 }; next = 68 }
 
 pub walk-worked :
     (walk_through two ≡ first_found ∷ second_found ∷ [])
-    × ((map (λ place. first_from place (walk_through two)) (0 ∷ 8 ∷ 9 ∷ 28 ∷ 29 ∷ 68 ∷ []) ≡ first_found ∷ first_found ∷ second_found ∷ second_found ∷ End ∷ End ∷ [])
+    × ((map (λ place. first_from place (walk_through two)) (0 ∷ 8 ∷ 9 ∷ 28 ∷ 29 ∷ 68 ∷ []) ≡ Some first_found ∷ Some first_found ∷ Some second_found ∷ Some second_found ∷ None ∷ None ∷ [])
     × ((walk_from 4 (walked_of two) 8 ≡ first_found ∷ second_found ∷ [])
     × ((length (walked_of two) ≡ 68)
     × ((map pointed_values (pointed_of two 9 ∷ pointed_of two 29 ∷ pointed_of (7 ∷ two) 0 ∷ []) ≡ done 28 1 0 0 ∷ done 0 0 0 0 ∷ refused 1 0 0 ∷ [])

@@ -1,5 +1,5 @@
 -- Who may open (RULES 10.2 to 10.5). An entry is its bytes.
-use Rattle.std.specs.Prelude.{ℕ, zero, suc, ◌^◌, List, [], ◌∷◌, Bool, true, false, not, cond, ◌&&◌, ◌||◌, length, eqb, leb}
+use Rattle.std.specs.Prelude.{ℕ, zero, suc, ◌^◌, List, [], ◌∷◌, Bool, true, false, not, cond, ◌&&◌, ◌||◌, length, eqb, leb, Option, None, Some, Result, Ok, Err}
 use Rattle.std.proofs.Math.Option.{none, some}
 use Rattle.octets.specs.Order.{need}
 use Rattle.octets.specs.Bytes.{has, among, same_bytes, guid_at}
@@ -10,10 +10,11 @@ use Rattle.condition.specs.declared.truths.Truth.TheVariants.{False, True, Unkno
 use Rattle.list.specs.Entry.{access, object_kind, conditional_kind, kind_of, flags_of, mask_of, word_of, sid_of, tail_of}
 use Rattle.list.specs.List.{MaybeList, lent, entries_of, check_of}
 use Rattle.list.specs.Answer.{Values, done, refused}
-use Rattle.list.specs.declared.lists.Reading.{Reading}
-use Rattle.list.specs.declared.lists.Reading.TheVariants.{Done as Read, Refused as Unread}
-use Rattle.access.specs.declared.Access.{Access}
-use Rattle.access.specs.declared.Access.TheVariants.{Yes, No, Refused}
+use Rattle.list.specs.declared.readings.Read.{Read}
+use Rattle.refusal.specs.Numbers.{number_of}
+use Rattle.refusal.specs.Faults.{plain}
+use Rattle.refusal.specs.declared.Refusal.TheVariants.{Identity, Types, Generic, Table}
+use Rattle.refusal.specs.declared.Fault.{Fault}
 use Rattle.access.specs.Held.{held_of, reaches_end}
 
 -- a list or none, an object type, the SIDs that a person holds, laid end to end, a wanted mask, and a table of names
@@ -74,34 +75,40 @@ opens q none = true
 opens q (some s) = opens_by q.type q.table (held_of q.held) q.wanted (entries_of s)
 
 -- a list that is present reads as done, or its refusal is the answer
-unfoldable pub on_read : Reading → Access → Access
-on_read (Read len n end) rest = rest
-on_read (Unread k at) rest = Refused k at
+unfoldable pub on_read : Result Read Fault → Result Bool Fault → Result Bool Fault
+on_read (Ok r) rest = rest
+on_read (Err fault) rest = Err fault
 
-unfoldable pub read_first : MaybeList → Access → Access
+unfoldable pub read_first : MaybeList → Result Bool Fault → Result Bool Fault
 read_first none rest = rest
 read_first (some s) rest = on_read (check_of access s) rest
 
-abbrev pub yes_or_no : Bool → Access
-yes_or_no b = cond b Yes No
-
 -- the answer: 14, a generic bit wanted; then 1 to 5 and 15; then 6 where the held bytes aren't SIDs to their end; 7 for more than 32; 23 for a table that
 -- isn't well made
-unfoldable pub may_open_of : Question → Access
+unfoldable pub may_open_of : Question → Result Bool Fault
 may_open_of q =
-    need (not (has 0xF0000000 q.wanted)) (Refused 14 0)
+    need (not (has 0xF0000000 q.wanted)) (Err (plain Generic))
     (read_first q.list
-    (need (reaches_end q.held) (Refused 6 0)
-    (need (leb (length (held_of q.held)) 32) (Refused 7 0)
-    (need (table_ok q.table) (Refused 23 0)
-    (yes_or_no (opens q q.list))))))
+    (need (reaches_end q.held) (Err (plain Identity))
+    (need (leb (length (held_of q.held)) 32) (Err (plain Types))
+    (need (table_ok q.table) (Err (plain Table))
+    (Ok (opens q q.list))))))
 
 -- the numbers and values (RULES 4.2, 8.1) of each case of the answer: done, with 1 for yes and 0 for no in the place of the length
-abbrev pub access_values : Access → Values
-access_values Yes = done 1 0 0 0
-access_values No = done 0 0 0 0
-access_values (Refused k at) = refused k 0 at
+abbrev pub access_values : Result Bool Fault → Values
+access_values (Ok true) = done 1 0 0 0
+access_values (Ok false) = done 0 0 0 0
+access_values (Err fault) = refused (number_of fault.why) fault.list fault.at
+
+-- a list or none, as a call is lent it
+abbrev pub maybe_list : Option (List ℕ) → MaybeList
+maybe_list None = none
+maybe_list (Some s) = some s
 
 -- what the public call's arguments ask
+abbrev pub question_of : Option (List ℕ) → List ℕ → List ℕ → ℕ → List ℕ → Question
+question_of list type held wanted table = record { list = maybe_list list; type = type; held = held; wanted = wanted; table = table }
+
+-- the same of C's, a flag and a list beside it
 abbrev pub question_by : Bool → List ℕ → List ℕ → List ℕ → ℕ → List ℕ → Question
 question_by given list type held wanted table = record { list = lent given list; type = type; held = held; wanted = wanted; table = table }

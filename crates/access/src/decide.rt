@@ -1,58 +1,25 @@
 // Over a list's entries once, with the mask of the bits not yet decided.
-ghost use Rattle.std.specs.Prelude.{◌≡◌, true, drop};
-ghost use Rattle.octets.specs.Bytes.{has as Bytes·has};
-ghost use Rattle.list.specs.Entry.{access, kind_of, size_of, word_of, sid_end};
-ghost use Rattle.list.specs.Look.{look_of};
+ghost use Rattle.std.specs.Prelude.{◌≡◌, drop};
+ghost use Rattle.list.specs.Entry.{access, sid_end};
 ghost use Rattle.list.specs.List.{cut};
-ghost use Rattle.list.specs.Good.{Passes};
-ghost use Rattle.access.specs.Held.{held_of, reaches_end};
+ghost use Rattle.list.specs.Good.{Listed};
+ghost use Rattle.access.specs.Held.{held_of};
 ghost use Rattle.access.specs.Open.{type_counts, is_allow, said_counts, condition_counts};
-ghost use Rattle.access.specs.Inner.Decide.{SidIn, weighs as Decide·weighs, left_after, turn_with, decided};
+ghost use Rattle.access.specs.Inner.Decide.{weighs, left_after, decided};
 
-use crate::held::names;
+use crate::held::Asker;
+use crate::seen::Seen;
 use condition::Truth;
-use list::Look;
 
-// What an entry leaves: the bits still to decide; or a bit is denied.
-#[derive(Clone, Copy)]
-pub enum Turn {
-    On(u32),
-    Denied,
-}
-
-fn has(bits: u32, bit: u32) -> bool
-    ensures { result ≡ Bytes·has bit bits }
-{
-    bits & bit != 0
-}
-
+#[tactic(auto, unfolding(crate::specs::Open::is_allow))]
 fn is_allow(kind: u8) -> bool
     ensures { result ≡ is_allow kind }
 {
-    if kind == 0 {
-        return true;
-    }
-    if kind == 5 {
-        return true;
-    }
-    kind == 9
-}
-
-// An object entry counts only without an ObjectType or with the given one.
-fn type_counts(t: &[u8], kind: u8, word: u32, guid: [u8; 16]) -> bool
-    requires { (kind ≡ kind_of t.now) × (word ≡ word_of t.now) }
-    ensures { result ≡ type_counts guid t.now }
-{
-    if !list::is_object(kind) {
-        return true;
-    }
-    if word & 1 == 0 {
-        return true;
-    }
-    list::same_guid(list::guid_at(t, 12), guid)
+    matches!(kind, 0 | 5 | 9)
 }
 
 // A true condition applies, a false one passes the entry over; unknown grants nothing in an allow, and denies in a deny.
+#[tactic(auto, unfolding(crate::specs::Open::said_counts))]
 fn said_counts(said: Truth, kind: u8) -> bool
     ensures { result ≡ said_counts said (is_allow kind) }
 {
@@ -63,85 +30,84 @@ fn said_counts(said: Truth, kind: u8) -> bool
     }
 }
 
-// A conditional entry, whose SID ends at `end`, counts by what its expression says.
-fn condition_counts(t: &[u8], kind: u8, end: usize, size: usize, table: &[u8]) -> bool
-    requires { (kind ≡ kind_of t.now) × (end ≡ sid_end t.now) × (size ≡ size_of t.now) × SidIn t.now }
-    ensures { result ≡ condition_counts table.now t.now }
-{
-    if !list::is_conditional(kind) {
-        return true;
+impl<'a> Seen<'a> {
+    // An object entry counts only without an ObjectType or with the given one.
+    #[tactic(auto, unfolding(crate::specs::Open::type_counts))]
+    fn type_counts(&self, guid: [u8; 16]) -> bool
+        ensures { result ≡ type_counts guid self.now.bytes.now }
+    {
+        !list::is_object(self.look.kind)
+            || self.look.word & 1 == 0
+            || list::same_guid(list::guid_at(self.bytes, 12), guid)
     }
-    said_counts(condition::said(&t[end..size], table), kind)
-}
 
-// Whether the entry that `t` begins with counts and has a bit that isn't decided yet.
-fn weighs(t: &[u8], look: Look, guid: [u8; 16], held: &[u8], left: u32, table: &[u8]) -> bool
-    requires { (look ≡ look_of t.now) × SidIn t.now × (reaches_end held.now ≡ true) }
-    ensures { result ≡ Decide·weighs guid table.now (held_of held.now) left t.now }
-{
-    if !has(look.mask, left) {
-        return false;
+    // A conditional entry, whose SID ends at `end`, counts by what its expression says.
+    #[tactic(auto, unfolding(crate::specs::Open::condition_counts))]
+    fn condition_counts(&self, end: usize, table: &[u8]) -> bool
+        requires { end ≡ sid_end self.now.bytes.now }
+        ensures { result ≡ condition_counts table.now self.now.bytes.now }
+    {
+        !list::is_conditional(self.look.kind)
+            || said_counts(
+                condition::said(&self.bytes[end..self.look.size], table),
+                self.look.kind,
+            )
     }
-    if look.flags & 8 != 0 {
-        return false;
-    }
-    if !type_counts(t, look.kind, look.word, guid) {
-        return false;
-    }
-    let sid = look.sid;
-    let end = sid + list::sid_len_in(t, sid);
-    if !names(&t[sid..end], held) {
-        return false;
-    }
-    condition_counts(t, look.kind, end, look.size, table)
-}
 
-// What the entry that `t` begins with leaves to decide.
-fn turn_past(t: &[u8], look: Look, guid: [u8; 16], held: &[u8], left: u32, table: &[u8]) -> Turn
-    requires { (look ≡ look_of t.now) × SidIn t.now × (reaches_end held.now ≡ true) }
-    ensures { result ≡ turn_with (left_after guid table.now (held_of held.now) left t.now) }
-{
-    if !weighs(t, look, guid, held, left, table) {
-        return Turn::On(left);
+    // Whether it counts and has a bit that isn't decided yet.
+    #[tactic(auto, unfolding(crate::specs::Inner::Decide::weighs, crate::specs::Open::entry_counts, crate::specs::Open::applies))]
+    fn weighs(&self, asker: &Asker, left: u32) -> bool
+        ensures { result ≡ weighs asker.now.guid asker.now.table.now (held_of asker.now.held.bytes.now) left self.now.bytes.now }
+    {
+        if self.look.mask & left == 0 {
+            return false;
+        }
+        if self.look.flags & 8 != 0 {
+            return false;
+        }
+        if !self.type_counts(asker.guid) {
+            return false;
+        }
+        let sid = self.look.sid;
+        let end = sid + list::sid_len_in(self.bytes, sid);
+        asker.names(&self.bytes[sid..end]) && self.condition_counts(end, asker.table)
     }
-    if is_allow(look.kind) {
-        return Turn::On(left ^ (left & look.mask));
+
+    // What it leaves to decide, none where a bit is denied.
+    #[tactic(auto, unfolding(crate::specs::Inner::Decide::left_after))]
+    fn leaves(&self, asker: &Asker, left: u32) -> Option<u32>
+        ensures { result ≡ left_after asker.now.guid asker.now.table.now (held_of asker.now.held.bytes.now) left self.now.bytes.now }
+    {
+        if !self.weighs(asker, left) {
+            return Some(left);
+        }
+        if is_allow(self.look.kind) {
+            return Some(left ^ (left & self.look.mask));
+        }
+        None
     }
-    Turn::Denied
 }
 
 // Whether the n entries of a list grant each wanted bit: it stops as soon as that is decided.
-pub(crate) fn decide(
-    list: &[u8],
-    rev: u8,
-    n: usize,
-    guid: [u8; 16],
-    held: &[u8],
-    wanted: u32,
-    table: &[u8],
-) -> bool
-    requires { Passes access rev n (drop 8 list.now) × (reaches_end held.now ≡ true) }
-    ensures { result ≡ decided guid table.now (held_of held.now) wanted (cut n (drop 8 list.now)) }
+pub(crate) fn decide(list: &[u8], n: usize, asker: &Asker, wanted: u32) -> bool
+    requires { Listed access list.now n }
+    ensures { result ≡ decided asker.now.guid asker.now.table.now (held_of asker.now.held.bytes.now) wanted (cut n (drop 8 list.now)) }
 {
     let mut left = wanted;
-    let mut at: usize = 8;
-    let mut more = n;
-    // labelled, so that what the proof calls the loop doesn't hang on its test
-    'entries: while left != 0 {
-        if more == 0 {
+    let mut rest = &list[8..];
+    'entries: for _ in 0..n {
+        if left == 0 {
+            return true;
+        }
+        let e = Seen {
+            bytes: rest,
+            look: list::look_at(rest),
+        };
+        let Some(still) = e.leaves(asker, left) else {
             return false;
-        }
-        let look = list::look_at(&list[at..]);
-        match turn_past(&list[at..], look, guid, held, left, table) {
-            Turn::Denied => {
-                return false;
-            }
-            Turn::On(l) => {
-                left = l;
-            }
-        }
-        at += look.size;
-        more -= 1;
+        };
+        left = still;
+        rest = &rest[e.look.size..];
     }
-    true
+    left == 0
 }

@@ -1,4 +1,5 @@
-// The walker: a lent list itself and a place in it. Thin functions over the stepping function, which takes a slice and a number.
+// The walker: a lent list itself and a place in it. Thin functions over the stepping function, which takes a slice and a number: no methods, since `make`,
+// `step`, `past` and `first` are public and stay by these names.
 ghost use Rattle.std.specs.Prelude.{◌≡◌};
 ghost use Rattle.access.specs.Walk.{walked_of, step_at, next_at};
 
@@ -21,8 +22,8 @@ pub fn make<'a>(list: &'a [u8]) -> Walker<'a>
     }
 }
 
-// What stands at its place.
-pub fn step<'a>(w: Walker<'a>) -> Found
+// What stands at its place; none at the end.
+pub fn step<'a>(w: Walker<'a>) -> Option<Found>
     ensures { result ≡ step_at w.entry.list.now w.entry.at }
 {
     step_at(w.list, w.at)
@@ -40,7 +41,7 @@ pub fn past<'a>(w: Walker<'a>) -> Walker<'a>
 }
 
 // What a walker finds first, over a plain slice: whoever calls it needs no walk.
-pub fn first(list: &[u8]) -> Found
+pub fn first(list: &[u8]) -> Option<Found>
     ensures { result ≡ step_at (walked_of list.now) 8 }
 {
     step(make(list))

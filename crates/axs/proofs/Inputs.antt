@@ -9,7 +9,7 @@ use native.Mathlib.Omega.{arith}
 use lib.ListN.{length, drop, length-append, length-drop}
 use lib.Seq.{drop-drop, drop-append-le}
 use lib.Dec.{eqb, leb, ltb}
-use lib.IntN.{pos}
+use Rattle.axs.specs.declared.Channel.TheVariants.{Output, Error}
 use borrow.Author.Tests.{le-leb, lt-leb, lt-ltb, le-ltb, eq-eqb, ne_eqb}
 use Rattle.octets.specs.Bytes.{le}
 use Rattle.octets.proofs.Places.{split}
@@ -293,7 +293,7 @@ unfolding Told
 input-ends rs s r i far e q f = subst (Told s) f (told rs s r i far)
 
 -- what a course of the input s says
-said-by : (s : List ℕ) (c : Course) → Told s c → (x : Speech) → speech_of c ≡ some x → x ≡ record { to = pos 1; text = text_of (ending_of s) }
+said-by : (s : List ℕ) (c : Course) → Told s c → (x : Speech) → speech_of c ≡ some x → x ≡ record { to = Output; text = text_of (ending_of s) }
 unfolding Told Ends speech_of speech
 said-by s (On g) h x f = let z : ◌≡◌ {A = ℕ} 0 1 = cc in absurd (omega arith)
 said-by s (Over Whole q) h x f = let e : speech Whole q ≡ x = cc in sym e ∙ rw h refl
@@ -302,7 +302,7 @@ said-by s (Over Failed q) h x f = absurd h
 
 -- whatever the input and however reads hand it over: what a run says once it is over is the definition's text, on standard output
 pub input-said : (rs : List Read) (s r : List ℕ) → InputOf rs s → length s ≤ most
-    → (x : Speech) → speech_of (course_of rs (nothing_read r)) ≡ some x → x ≡ record { to = pos 1; text = text_of (ending_of s) }
+    → (x : Speech) → speech_of (course_of rs (nothing_read r)) ≡ some x → x ≡ record { to = Output; text = text_of (ending_of s) }
 input-said rs s r i far x f = said-by s (course_of rs (nothing_read r)) (told rs s r i far) x f
 
 -- ---- once the input ends
@@ -340,7 +340,7 @@ handed-over ((b ∷ p) ∷ ps) c = handed-over ps (then_read c (Gave (b ∷ p)))
 
 -- however an input is cut into pieces, a run that is handed all of it says its text
 pub handed-said : (ps : List (List ℕ)) (r : List ℕ) → length (all_pieces ps) ≤ most
-    → speech_of (course_of (handed ps) (nothing_read r)) ≡ some (record { to = pos 1; text = text_of (ending_of (all_pieces ps)) })
+    → speech_of (course_of (handed ps) (nothing_read r)) ≡ some (record { to = Output; text = text_of (ending_of (all_pieces ps)) })
 handed-said ps r far =
     let (x, e) = handed-over ps (nothing_read r) in
     e ∙ ap some (input-said (handed ps) (all_pieces ps) r (handed-input ps) far x e)
@@ -411,12 +411,12 @@ whole-listable rs r e q f = subst Keeps f (reads-keep rs (nothing_read r) (began
 -- ---- a read that failed
 
 -- a run that failed says so on standard error
-pub failed-said : (rs : List Read) (r q : List ℕ) → course_of rs (nothing_read r) ≡ Over Failed q → speech_of (course_of rs (nothing_read r)) ≡ some (record { to = pos 2; text = unread_text })
+pub failed-said : (rs : List Read) (r q : List ℕ) → course_of rs (nothing_read r) ≡ Over Failed q → speech_of (course_of rs (nothing_read r)) ≡ some (record { to = Error; text = unread_text })
 unfolding speech_of speech
 failed-said rs r q f = rw f refl
 
 -- a run that is still on fails with the read that breaks
 pub broke-fails : (rs : List Read) (r : List ℕ) (g : Stand) → course_of rs (nothing_read r) ≡ On g
-    → speech_of (course_of (rs ++ (Broke ∷ [])) (nothing_read r)) ≡ some (record { to = pos 2; text = unread_text })
+    → speech_of (course_of (rs ++ (Broke ∷ [])) (nothing_read r)) ≡ some (record { to = Error; text = unread_text })
 unfolding then_read after_read
 broke-fails rs r g f = failed-said (rs ++ (Broke ∷ [])) r g.room (one_more rs Broke (nothing_read r) ∙ rw f refl)

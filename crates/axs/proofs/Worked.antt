@@ -5,7 +5,7 @@ use mathlib.Core.Option.{some}
 use Prim.Native.Nat.{ℕ}
 use native.Mathlib.Omega.{arith}
 use lib.ListN.{length}
-use lib.IntN.{pos}
+use Rattle.axs.specs.declared.Channel.TheVariants.{Output, Error}
 use Rattle.octets.specs.Bytes.{le}
 use Rattle.tree.specs.Shown.{lists_in}
 use Rattle.tree.specs.Model.{objects_of}
@@ -48,28 +48,28 @@ head-listed =
 -- the head alone, two bytes and then three, and its end: "objects 0"
 pub head-said : (r : List ℕ)
     → speech_of (course_of (Gave (0x41 ∷ 0x58 ∷ []) ∷ Gave (0x53 ∷ 1 ∷ 0 ∷ []) ∷ Gave [] ∷ []) (nothing_read r))
-    ≡ some (record { to = pos 1; text = 111 ∷ 98 ∷ 106 ∷ 101 ∷ 99 ∷ 116 ∷ 115 ∷ 32 ∷ 48 ∷ 10 ∷ [] })
+    ≡ some (record { to = Output; text = 111 ∷ 98 ∷ 106 ∷ 101 ∷ 99 ∷ 116 ∷ 115 ∷ 32 ∷ 48 ∷ 10 ∷ [] })
 unfolding handed all_pieces
 head-said r =
     handed-said ((0x41 ∷ 0x58 ∷ []) ∷ (0x53 ∷ 1 ∷ 0 ∷ []) ∷ []) r (omega arith)
-    ∙ ap (λ (t : List ℕ). some (record { to = pos 1; text = t })) head-listed
+    ∙ ap (λ (t : List ℕ). some (record { to = Output; text = t })) head-listed
 
 -- the head cut after four bytes: "bad at 0"
 pub cut-said : (r : List ℕ)
     → speech_of (course_of (Gave (0x41 ∷ 0x58 ∷ 0x53 ∷ 1 ∷ []) ∷ Gave [] ∷ []) (nothing_read r))
-    ≡ some (record { to = pos 1; text = 98 ∷ 97 ∷ 100 ∷ 32 ∷ 97 ∷ 116 ∷ 32 ∷ 48 ∷ 10 ∷ [] })
+    ≡ some (record { to = Output; text = 98 ∷ 97 ∷ 100 ∷ 32 ∷ 97 ∷ 116 ∷ 32 ∷ 48 ∷ 10 ∷ [] })
 unfolding digits decimal bad_line text_of on_head on_bytes end_at after_read then_read course_of nothing_read speech speech_of
 cut-said r = refl
 
 -- the head and 09, which no record begins with: "bad at 5", before the input ends
 pub bad-said : (r : List ℕ)
     → speech_of (course_of (Gave (0x41 ∷ 0x58 ∷ 0x53 ∷ 1 ∷ 0 ∷ []) ∷ Gave (9 ∷ []) ∷ []) (nothing_read r))
-    ≡ some (record { to = pos 1; text = 98 ∷ 97 ∷ 100 ∷ 32 ∷ 97 ∷ 116 ∷ 32 ∷ 53 ∷ 10 ∷ [] })
+    ≡ some (record { to = Output; text = 98 ∷ 97 ∷ 100 ∷ 32 ∷ 97 ∷ 116 ∷ 32 ∷ 53 ∷ 10 ∷ [] })
 unfolding le record_size form_ok step_of on_step run_by run_of digits decimal bad_line script_head_ok text_of on_records on_head on_bytes after_read then_read course_of nothing_read speech speech_of
 bad-said r = refl
 
 -- two bytes, and then a read that fails: the input could not be read
 pub broke-said : (r : List ℕ)
-    → speech_of (course_of (Gave (0x41 ∷ 0x58 ∷ []) ∷ Broke ∷ []) (nothing_read r)) ≡ some (record { to = pos 2; text = unread_text })
+    → speech_of (course_of (Gave (0x41 ∷ 0x58 ∷ []) ∷ Broke ∷ []) (nothing_read r)) ≡ some (record { to = Error; text = unread_text })
 unfolding on_head on_bytes after_read then_read course_of nothing_read speech speech_of
 broke-said r = refl

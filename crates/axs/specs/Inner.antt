@@ -1,2 +1,3 @@
 -- What only private functions' contracts cite: no public promise rests on it.
+pub mod Bounds
 pub mod Buffered

@@ -1,17 +1,19 @@
 -- What the program says once a run is over, and where.
-use Rattle.std.specs.Prelude.{ℕ, ◌-◌, ◌≤◌, ◌≡◌, Bool, true, false, cond, List, [], ◌∷◌, length, take, eqb, ℤ, pos}
+use Rattle.std.specs.Prelude.{ℕ, ◌-◌, ◌≡◌, Bool, true, false, cond, List, [], ◌∷◌, eqb}
 use Rattle.std.proofs.Math.Option.{Option, some, none}
 use Rattle.tree.specs.Shown.{lists_in}
 use Rattle.script.specs.Play.{Listed, BadAt, text_of}
 use Rattle.axs.specs.declared.End.{End}
 use Rattle.axs.specs.declared.End.TheVariants.{Whole, Bad, Failed}
+use Rattle.axs.specs.declared.Channel.{Channel}
+use Rattle.axs.specs.declared.Channel.TheVariants.{Output, Error}
 use Rattle.axs.specs.declared.Said.{Said}
-use Rattle.axs.specs.Counts.{clamp_len}
+use Rattle.axs.specs.Counts.{Answered, clamp_len}
 use Rattle.axs.specs.Reads.{Read, Course, On, Over, course_of, nothing_read}
 
--- a text, and the descriptor that it is written to: 1 is standard output, 2 standard error
+-- a text, and where it is written: to standard output or standard error
 pub record Speech : Type 0 where
-  pub to : ℤ
+  pub to : Channel
   pub text : List ℕ
 
 -- "axs: standard input could not be read" and a newline
@@ -26,36 +28,35 @@ unread_text =
 
 -- the listing, or the line that says where the script is bad; nothing is listed of an input that could not be read to its end
 unfoldable pub speech : End → List ℕ → Speech
-speech Whole r = record { to = pos 1; text = text_of (Listed (lists_in r)) }
-speech (Bad n) r = record { to = pos 1; text = text_of (BadAt n) }
-speech Failed r = record { to = pos 2; text = unread_text }
+speech Whole r = record { to = Output; text = text_of (Listed (lists_in r)) }
+speech (Bad n) r = record { to = Output; text = text_of (BadAt n) }
+speech Failed r = record { to = Error; text = unread_text }
 
 unfoldable pub speech_of : Course → Option Speech
 speech_of (On g) = none
 speech_of (Over e r) = some (speech e r)
 
--- ---- what a function promises that gives a length and a place
+-- ---- what a function promises that gives a text and a place
 
--- r.length bytes of b are said, to r.to
-pub record Spoken (r : Said) (b : List ℕ) (s : Speech) : Type 0 where
+-- r is what is said
+pub record Spoken (r : Said) (s : Speech) : Type 0 where
   pub to : r.to ≡ s.to
-  pub within : r.length ≤ length b
-  pub text : take r.length b ≡ s.text
+  pub text : r.text.now ≡ s.text
 
--- there are reads after which a run from the room r is over and says what is said of b
-pub record RunSays (r : List ℕ) (x : Said) (b : List ℕ) : Type 0 where
+-- there are reads after which a run from the room r is over and says x
+pub record RunSays (r : List ℕ) (x : Said) : Type 0 where
   pub reads : List Read
   pub speaks : Speech
   pub is : speech_of (course_of reads (nothing_read r)) ≡ some speaks
-  pub said : Spoken x b speaks
+  pub said : Spoken x speaks
 
 -- ---- writing
 
 -- whether a text of n bytes was taken whole, by the answers of the writes: each was lent all that is left, and one that takes nothing is the last
-unfoldable pub whole_by : List ℤ → ℕ → Bool
+unfoldable pub whole_by : List Answered → ℕ → Bool
 whole_by [] n = eqb n 0
 whole_by (z ∷ zs) n = cond (eqb n 0) true (cond (eqb (clamp_len z n) 0) false (whole_by zs (n - clamp_len z n)))
 
 -- there are writes by which it was, or wasn't
 unfoldable pub Written : ℕ → Bool → Type 0
-Written n whole = (zs : List ℤ) × (whole ≡ whole_by zs n)
+Written n whole = (zs : List Answered) × (whole ≡ whole_by zs n)

@@ -53,7 +53,7 @@ pub pt-read-determined : Determines 3 pt-read.ps pt-read.r
 pt-read-determined κs a x y s t p q = (p.1 ∙ sym q.1, p.0 ∙ sym q.0)
 
 -- the result's buffer and the answer afterwards
-pub pt-compute-determined : Determines 7 pt-compute.ps pt-compute.r
+pub pt-compute-determined : Determines 9 pt-compute.ps pt-compute.r
     (λ κs x y s t. (s.1.1.1.1.1.1.1.1.1.0.now ≡ t.1.1.1.1.1.1.1.1.1.0.now)
     × (s.1.1.1.1.1.1.1.1.1.1.0.now ≡ t.1.1.1.1.1.1.1.1.1.1.0.now))
     pt-compute-reads.Learnt

@@ -29,8 +29,8 @@ use Rattle.inherit.proofs.Worked.{mapping, system}
 use Rattle.tree.proofs.Worked.{bytes_open, entries_open, lists_open, copies_open, last_open, compute-open}
 use Rattle.access.specs.Held.{sids_in, held_of, reaches_end}
 use Rattle.access.specs.Open.{Question, type_counts, condition_counts, applies, entry_counts, is_allow, granted, each_bit, opens_by, opens, on_read, read_first, may_open_of}
-use Rattle.access.specs.declared.Access.{Access}
-use Rattle.access.specs.declared.Access.TheVariants.{Yes, No}
+use Rattle.std.specs.Prelude.{Result, Ok}
+use Rattle.refusal.specs.declared.Fault.{Fault}
 use Rattle.access.proofs.Bitwise.{each_at, both_hold}
 use Rattle.access.proofs.Conditions.{alike-counts}
 use Rattle.access.proofs.Theorems.{yes-exactly, allowed-opens}
@@ -101,7 +101,7 @@ module _ (a : Asked) (room : ℕ) (r : a.rule ≡ 2) (h : (compute_of a room).pr
       (both_hold (ap (λ (x : List ℕ). among x sids) is.sid ∙ names) (both_hold (untyped-counts q.type copy (ap (has 1) is.word ∙ grants.untyped)) (alike-counts q.table copy e is.kind is.tail ∙ said)))
 
   pub full-control : has 0xF0000000 q.wanted ≡ false → ((k : ℕ) → k < 32 → has (2 ^ k) q.wanted ≡ true → has (2 ^ k) a.mapping.all ≡ true)
-      → may_open_of q ≡ Yes
+      → may_open_of q ≡ Ok true
   unfolding opens
   full-control specific part =
       let bits : (k : ℕ) → k < 32 → has (2 ^ k) q.wanted ≡ true → has (2 ^ k) (mask_of copy) ≡ true =
@@ -188,13 +188,13 @@ unfolding bytes_open entries_open lists_open copies_open
 default-grants = folder-grants (by_default 2) 0x03 (inr (inr (record { stands = alone; nothing = refl; alone = refl; flags-are = refl }))) refl
 
 -- what the one who holds it may do: read, all of the "all" mapping, and what isn't in it
-abbrev may : Asked → List Access
+abbrev may : Asked → List (Result Bool Fault)
 may a =
     map (λ wanted. may_open_of (record { list = some (bytes_for (result_of access a)); type = replicate 16 0; held = system; wanted = wanted; table = [] }))
     (0x00000001 ∷ 0x001F01FF ∷ 0x00200000 ∷ [])
 
 -- under rule 2 the first two; under rule 1 nothing, as under rule 2 while the bit stood for nothing
-pub full-worked : (map may (plan 2 ∷ itself 2 ∷ by_default 2 ∷ []) ≡ replicate 3 (Yes ∷ Yes ∷ No ∷ []))
-    × (map may (plan 1 ∷ itself 1 ∷ by_default 1 ∷ []) ≡ replicate 3 (No ∷ No ∷ No ∷ []))
+pub full-worked : (map may (plan 2 ∷ itself 2 ∷ by_default 2 ∷ []) ≡ replicate 3 (Ok true ∷ Ok true ∷ Ok false ∷ []))
+    × (map may (plan 1 ∷ itself 1 ∷ by_default 1 ∷ []) ≡ replicate 3 (Ok false ∷ Ok false ∷ Ok false ∷ []))
 unfolding bytes_open entries_open lists_open copies_open last_open compute-open may_open_of read_first on_read opens opens_by each_bit granted entry_counts applies type_counts condition_counts is_allow held_of sids_in whole_sid well_made
 full-worked = (refl, refl)

@@ -9,27 +9,25 @@ ghost use Rattle.list.specs.Identity.{identity_of};
 ghost use Rattle.list.specs.Entry.{access};
 ghost use Rattle.list.specs.List.{read_of, row_by, lent};
 ghost use Rattle.list.specs.Answer.{refused, read_values};
+ghost use Rattle.refusal.specs.Numbers.{number_of};
 ghost use Rattle.access.specs.Open.{may_open_of, access_values, question_by};
 ghost use Rattle.access.specs.Walk.{found_values, pointed_values, pointed_of};
 ghost use Rattle.sidebyside.specs.Compare.{compared_of, compared_values, row_after};
-ghost use Rattle.inherit.specs.Compute.{asked_by};
-ghost use Rattle.tree.specs.Held.{yes};
 ghost use Rattle.tree.specs.Room.{room_of};
 ghost use Rattle.tree.specs.Calls.{list as Edit·list, mark as Edit·mark, owners as Edit·owners, answer_values as Calls·values_of, object_for, start_to, add_to, alter_to, undo_to, list_to, own_to, data_to, counts_to};
 ghost use Rattle.script.specs.Play.{play_to};
-ghost use Rattle.capi.specs.Places.{places_of, truth_number, evaluated_values, translated_values, settings_of, mapping_from, yes_of, new_of, Computes, found_places, entry_places, Told32};
+ghost use Rattle.capi.specs.Places.{places_of, truth_number, evaluated_values, translated_values, settings_of, mapping_from, yes_of, new_of, computing, Computes, found_places, entry_places, Told32};
 
-use access::{Access, Found, Pointed};
-use condition::{Evaluated, Truth};
-use inherit::{Computed, Mapping, Settings};
-use list::Reading;
-use sidebyside::Compared;
-use tree::Answer;
-use wording::Translated;
+use access::Found;
+use condition::Truth;
+use inherit::{Mapping, Settings};
+use list::Placeholder;
+use refusal::Fault;
+use tree::Done;
 
-// The values of an answer, each in its place (RULES 8.1).
-fn put_values(
-    answer: &mut [u32; 8],
+// The values of an answer; each has its place (RULES 8.1).
+#[derive(Clone, Copy)]
+struct Values {
     number: u32,
     list: u32,
     offset: u32,
@@ -38,17 +36,41 @@ fn put_values(
     count: u32,
     control: u32,
     end: u32,
-)
-    ensures { answer.new ≡ places_of (record { number = number; list = list; offset = offset; length = length; present = present; count = count; control = control; end = end }) }
-{
-    *answer = [number, list, offset, length, present, count, control, end];
 }
 
-// A refusal outside the computation and the tree: it concerns list 0.
-fn put_refused(answer: &mut [u32; 8], number: u8, at: u16)
-    ensures { answer.new ≡ places_of (refused number 0 at) }
+// What is not told is zero.
+const UNTOLD: Values = Values {
+    number: 0,
+    list: 0,
+    offset: 0,
+    length: 0,
+    present: 0,
+    count: 0,
+    control: 0,
+    end: 0,
+};
+
+fn put_values(answer: &mut [u32; 8], v: Values)
+    ensures { answer.new ≡ places_of (record { number = v.number; list = v.list; offset = v.offset; length = v.length; present = v.present; count = v.count; control = v.control; end = v.end }) }
 {
-    put_values(answer, number as u32, 0, at as u32, 0, 0, 0, 0, 0);
+    *answer = [
+        v.number, v.list, v.offset, v.length, v.present, v.count, v.control, v.end,
+    ];
+}
+
+// A refusal, the list that it concerns and the offset of its entry.
+fn put_fault(answer: &mut [u32; 8], fault: Fault)
+    ensures { answer.new ≡ places_of (refused (number_of fault.why) fault.list fault.at) }
+{
+    put_values(
+        answer,
+        Values {
+            number: u32::from(fault.why.number()),
+            list: u32::from(fault.list),
+            offset: u32::from(fault.at),
+            ..UNTOLD
+        },
+    );
 }
 
 // A flag that is passed as a bit of a number.
@@ -62,9 +84,6 @@ fn settings_of(bits: u32) -> Settings
     ensures { result ≡ settings_of bits }
 {
     Settings {
-        parent: has(bits, 1),
-        creator: has(bits, 2),
-        default: has(bits, 4),
         container: has(bits, 8),
         auto: has(bits, 16),
         defaulted: has(bits, 32),
@@ -87,7 +106,12 @@ fn mapping_of(m: &[u32; 4]) -> Mapping
 pub fn pt_identity(bytes: &[u8]) -> u32
     ensures { result ≡ identity_of bytes.now }
 {
-    list::identity(bytes) as u32
+    match list::identity(bytes) {
+        Ok(None) => 0,
+        Ok(Some(Placeholder::Owner)) => 1,
+        Ok(Some(Placeholder::Group)) => 2,
+        Err(why) => u32::from(why.number()),
+    }
 }
 
 // Reads a list, with the offset of each entry in the row.
@@ -96,35 +120,30 @@ pub fn pt_read(list: &[u8], row: &mut [u16], answer: &mut [u32; 8])
     ensures index { row.new ≡ row_by (read_of access list.now (length row.old)) list.now row.old }
 {
     match list::read(list, row) {
-        Reading::Done {
-            length,
-            count: entries,
-            end,
-        } => put_values(
+        Ok(read) => put_values(
             answer,
-            0,
-            0,
-            0,
-            length as u32,
-            1,
-            entries as u32,
-            0,
-            end as u32,
+            Values {
+                length: u32::from(read.length),
+                present: 1,
+                count: u32::from(read.count),
+                end: u32::from(read.end),
+                ..UNTOLD
+            },
         ),
-        Reading::Refused { number, at } => put_refused(answer, number, at),
+        Err(fault) => put_fault(answer, fault),
     }
 }
 
 // What a walk has found: the entry's numbers, and the answer.
-fn put_found(entry: &mut [u32; 8], answer: &mut [u32; 8], found: Found)
+fn put_found(entry: &mut [u32; 8], answer: &mut [u32; 8], found: Option<Found>)
     requires { Told32 found }
     ensures { (entry.new ≡ found_places found) × (answer.new ≡ places_of (found_values found)) }
 {
     match found {
-        Found::At { at, entry: e, next } => {
+        Some(Found { at, entry: e, next }) => {
             *entry = [
-                e.kind as u32,
-                e.flags as u32,
+                u32::from(e.kind),
+                u32::from(e.flags),
                 e.size as u32,
                 e.mask,
                 e.word,
@@ -132,11 +151,18 @@ fn put_found(entry: &mut [u32; 8], answer: &mut [u32; 8], found: Found)
                 e.sid_len as u32,
                 next as u32,
             ];
-            put_values(answer, 0, 0, 0, at as u32, 1, 0, 0, 0);
+            put_values(
+                answer,
+                Values {
+                    length: at as u32,
+                    present: 1,
+                    ..UNTOLD
+                },
+            );
         }
-        Found::End => {
+        None => {
             *entry = [0; 8];
-            put_values(answer, 0, 0, 0, 0, 0, 0, 0, 0);
+            put_values(answer, UNTOLD);
         }
     }
 }
@@ -147,10 +173,10 @@ pub fn pt_step(list: &[u8], place: u32, entry: &mut [u32; 8], answer: &mut [u32;
     ensures entry { entry.new ≡ entry_places (pointed_of list.now place) }
 {
     match access::step_from(list, place as usize) {
-        Pointed::Done(found) => put_found(entry, answer, found),
-        Pointed::Refused { number, at } => {
+        Ok(found) => put_found(entry, answer, found),
+        Err(fault) => {
             *entry = [0; 8];
-            put_refused(answer, number, at);
+            put_fault(answer, fault);
         }
     }
 }
@@ -161,33 +187,32 @@ pub fn pt_compare(first: &[u8], second: &[u8], row: &mut [u32], answer: &mut [u3
     ensures row { row.new ≡ row_after first.now second.now row.old }
 {
     match sidebyside::compare(first, second, row) {
-        Compared::Done {
-            removed,
-            added,
-            bits,
-        } => put_values(answer, 0, 0, 0, removed, added, bits, 0, 0),
-        Compared::Refused { number, list, at } => put_values(
+        Ok(compared) => put_values(
             answer,
-            number as u32,
-            list as u32,
-            at as u32,
-            0,
-            0,
-            0,
-            0,
-            0,
+            Values {
+                length: compared.removed,
+                present: compared.added,
+                count: compared.bits,
+                ..UNTOLD
+            },
         ),
+        Err(fault) => put_fault(answer, fault),
     }
 }
 
 // What is told of a person who would open an object.
-fn put_access(answer: &mut [u32; 8], access: Access)
+fn put_access(answer: &mut [u32; 8], access: Result<bool, Fault>)
     ensures { answer.new ≡ places_of (access_values access) }
 {
     match access {
-        Access::Yes => put_values(answer, 0, 0, 0, 1, 0, 0, 0, 0),
-        Access::No => put_values(answer, 0, 0, 0, 0, 0, 0, 0, 0),
-        Access::Refused { number, at } => put_refused(answer, number, at),
+        Ok(yes) => put_values(
+            answer,
+            Values {
+                length: u32::from(yes),
+                ..UNTOLD
+            },
+        ),
+        Err(fault) => put_fault(answer, fault),
     }
 }
 
@@ -204,7 +229,7 @@ pub fn pt_may_open(
 {
     put_access(
         answer,
-        access::may_open(given != 0, list, *kind, held, wanted),
+        access::may_open((given != 0).then_some(list), *kind, held, wanted),
     );
 }
 
@@ -222,7 +247,7 @@ pub fn pt_may_open_with(
 {
     put_access(
         answer,
-        access::may_open_with(given != 0, list, *kind, held, wanted, table),
+        access::may_open_with((given != 0).then_some(list), *kind, held, wanted, table),
     );
 }
 
@@ -242,8 +267,14 @@ pub fn pt_evaluate(expression: &[u8], table: &[u8], answer: &mut [u32; 8])
     ensures { answer.new ≡ places_of (evaluated_values (evaluate_of expression.now table.now)) }
 {
     match condition::evaluate(expression, table) {
-        Evaluated::Done(truth) => put_values(answer, 0, 0, 0, truth_number(truth), 0, 0, 0, 0),
-        Evaluated::Refused(number) => put_refused(answer, number, 0),
+        Ok(truth) => put_values(
+            answer,
+            Values {
+                length: truth_number(truth),
+                ..UNTOLD
+            },
+        ),
+        Err(why) => put_fault(answer, why.into()),
     }
 }
 
@@ -253,127 +284,79 @@ pub fn pt_condition(text: &[u8], out: &mut [u8], answer: &mut [u32; 8])
     ensures out { out.new ≡ out_after text.now out.old }
 {
     match wording::translate(text, out) {
-        Translated::Done(long, tokens) => put_values(
+        Ok(stored) => put_values(
             answer,
-            0,
-            0,
-            0,
-            long as u32,
-            1,
-            tokens as u32,
-            0,
-            0,
+            Values {
+                length: stored.size as u32,
+                present: 1,
+                count: stored.tokens as u32,
+                ..UNTOLD
+            },
         ),
-        Translated::Refused(number, at) => put_refused(answer, number, at as u16),
+        Err(fault) => put_fault(answer, Fault::at(fault.why, fault.at as u16)),
     }
 }
 
 // The list of a new object. Settings: 1 parent present, 2 creator present, 4 default present, 8 container,
 // 16 auto inherit, 32 default descriptor, 64 protected. Mapping: read, write, execute, all.
-pub fn pt_compute<'a>(
+pub fn pt_compute(
     rule: u32,
     settings: u32,
     mapping: &[u32; 4],
-    parent: &'a [u8],
-    creator: &'a [u8],
-    default: &'a [u8],
+    parent: &[u8],
+    creator: &[u8],
+    default: &[u8],
     types: &[u8],
     owner: &[u8],
     group: &[u8],
     out: &mut [u8],
     answer: &mut [u32; 8],
 )
-    ensures { Computes (asked_by rule (settings_of settings) (mapping_from mapping.now) parent.now creator.now default.now types.now owner.now group.now) out.old answer.new out.new }
+    ensures { Computes (computing rule settings mapping.now parent.now creator.now default.now types.now owner.now group.now) out.old answer.new out.new }
 {
     let m = mapping_of(mapping);
     match inherit::compute(
         rule,
         settings_of(settings),
         m,
-        parent,
-        creator,
-        default,
+        has(settings, 1).then_some(parent),
+        has(settings, 2).then_some(creator),
+        has(settings, 4).then_some(default),
         types,
         owner,
         group,
         out,
     ) {
-        Computed::Present {
-            length,
-            count,
-            control,
-        } => put_values(
+        Ok(Some(computed)) => put_values(
             answer,
-            0,
-            0,
-            0,
-            length as u32,
-            1,
-            count as u32,
-            control as u32,
-            0,
+            Values {
+                length: u32::from(computed.length),
+                present: 1,
+                count: u32::from(computed.count),
+                control: u32::from(computed.control),
+                ..UNTOLD
+            },
         ),
-        Computed::Absent => put_values(answer, 0, 0, 0, 0, 0, 0, 0, 0),
-        Computed::Refused {
-            number,
-            list,
-            offset,
-        } => put_values(
-            answer,
-            number as u32,
-            list as u32,
-            offset as u32,
-            0,
-            0,
-            0,
-            0,
-            0,
-        ),
+        Ok(None) => put_values(answer, UNTOLD),
+        Err(fault) => put_fault(answer, fault),
     }
 }
 
-// 1 for yes, 0 for no.
-fn flag(b: bool) -> u32
-    ensures { result ≡ yes b }
-{
-    if b { 1 } else { 0 }
-}
-
 // The answer of a tree's call, in its places.
-fn put_answer(answer: &mut [u32; 8], a: Answer)
-    ensures { answer.new ≡ places_of (Calls·values_of a) }
+fn put_answer(answer: &mut [u32; 8], told: Result<Done, Fault>)
+    ensures { answer.new ≡ places_of (Calls·values_of told) }
 {
-    match a {
-        Answer::Done {
-            length: long,
-            present,
-            count: held,
-        } => put_values(
+    match told {
+        Ok(done) => put_values(
             answer,
-            0,
-            0,
-            0,
-            long as u32,
-            flag(present),
-            held as u32,
-            0,
-            0,
+            Values {
+                length: u32::from(done.length),
+                present: u32::from(done.present),
+                count: u32::from(done.count),
+                ..UNTOLD
+            },
         ),
-        Answer::Refused {
-            number: why,
-            list: which,
-            offset: place,
-        } => put_values(
-            answer,
-            why as u32,
-            which as u32,
-            place as u32,
-            0,
-            0,
-            0,
-            0,
-            0,
-        ),
+        Err(fault) => put_fault(answer, fault),
     }
 }
 
@@ -381,7 +364,7 @@ fn put_answer(answer: &mut [u32; 8], a: Answer)
 pub fn pt_room(objects: u32, steps: u32) -> usize
     ensures { result ≡ room_of objects steps }
 {
-    tree::room(objects, steps)
+    tree::room(objects, steps).unwrap_or(0)
 }
 
 // Starts a tree in a lent room.
@@ -399,10 +382,8 @@ pub fn pt_start(
     ensures room { room.new ≡ (start_to (record { object-limit = objects; step-limit = steps; rule = rule; mapping = mapping_from mapping.now; default = lent (yes_of given) default.now }) room.old).bytes }
 {
     let m = mapping_of(mapping);
-    put_answer(
-        answer,
-        tree::start(room, objects, steps, rule, m, given != 0, default),
-    );
+    let default = (given != 0).then_some(default);
+    put_answer(answer, tree::start(room, objects, steps, rule, m, default));
 }
 
 // Adds an object. Parent: 0xFFFFFFFF for none. Traits: 1 container, 2 protected mark, 4 an own list is given.
@@ -429,8 +410,7 @@ pub fn pt_add(
             *kind,
             owner,
             group,
-            has(traits, 4),
-            list,
+            has(traits, 4).then_some(list),
         ),
     );
 }
@@ -440,7 +420,10 @@ pub fn pt_set_list(room: &mut [u8], object: u32, given: u32, list: &[u8], answer
     ensures answer { answer.new ≡ places_of (Calls·values_of (alter_to object (Edit·list (lent (yes_of given) list.now)) room.old).answer) }
     ensures room { room.new ≡ (alter_to object (Edit·list (lent (yes_of given) list.now)) room.old).bytes }
 {
-    put_answer(answer, tree::set_list(room, object, given != 0, list));
+    put_answer(
+        answer,
+        tree::set_list(room, object, (given != 0).then_some(list)),
+    );
 }
 
 // Sets an object's protected mark.

@@ -11,11 +11,10 @@ ghost use Rattle.list.specs.Answer.{read_values};
 ghost use Rattle.access.specs.Open.{may_open_of, access_values, question_by};
 ghost use Rattle.access.specs.Walk.{pointed_values, pointed_of};
 ghost use Rattle.sidebyside.specs.Compare.{compared_of, compared_values, row_after};
-ghost use Rattle.inherit.specs.Compute.{asked_by};
 ghost use Rattle.tree.specs.Room.{room_of};
 ghost use Rattle.tree.specs.Calls.{list as Edit·list, mark as Edit·mark, owners as Edit·owners, answer_values as Calls·values_of, object_for, start_to, add_to, alter_to, undo_to, list_to, own_to, data_to, counts_to};
 ghost use Rattle.script.specs.Play.{play_to};
-ghost use Rattle.capi.specs.Places.{places_of, evaluated_values, translated_values, settings_of, mapping_from, yes_of, new_of, Computes, entry_places};
+ghost use Rattle.capi.specs.Places.{places_of, evaluated_values, translated_values, mapping_from, yes_of, new_of, computing, Computes, entry_places};
 
 // Which identity the bytes are: 0 exactly one SID and no placeholder, 1 creator owner, 2 creator group, 6 not exactly one SID.
 #[unsafe(no_mangle)]
@@ -103,20 +102,20 @@ pub extern "C" fn pt_condition(text: &[u8], out: &mut [u8], answer: &mut [u32; 8
 // The list of a new object. Settings: 1 parent present, 2 creator present, 4 default present, 8 container,
 // 16 auto inherit, 32 default descriptor, 64 protected. Mapping: read, write, execute, all.
 #[unsafe(no_mangle)]
-pub extern "C" fn pt_compute<'a>(
+pub extern "C" fn pt_compute(
     rule: u32,
     settings: u32,
     mapping: &[u32; 4],
-    parent: &'a [u8],
-    creator: &'a [u8],
-    default: &'a [u8],
+    parent: &[u8],
+    creator: &[u8],
+    default: &[u8],
     types: &[u8],
     owner: &[u8],
     group: &[u8],
     out: &mut [u8],
     answer: &mut [u32; 8],
 )
-    ensures { Computes (asked_by rule (settings_of settings) (mapping_from mapping.now) parent.now creator.now default.now types.now owner.now group.now) out.old answer.new out.new }
+    ensures { Computes (computing rule settings mapping.now parent.now creator.now default.now types.now owner.now group.now) out.old answer.new out.new }
 {
     capi::pt_compute(
         rule, settings, mapping, parent, creator, default, types, owner, group, out, answer,

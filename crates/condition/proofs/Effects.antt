@@ -1,5 +1,5 @@
 -- The token that bytes begin with, once it is known to be one: what it is by its first byte, and that all its bytes are there.
-use mathlib.Core.Path.{◌≡◌, refl, ap, ◌∙◌}
+use mathlib.Core.Path.{◌≡◌, refl, sym, ap, ◌∙◌}
 use mathlib.Core.Bool.{Bool, true, false, cond, ◌&&◌}
 use mathlib.Core.List.{List, [], ◌∷◌}
 use mathlib.Core.Option.{Option, none, some}
@@ -10,6 +10,9 @@ use lib.ListN.{length, get_or, take, drop, length-drop}
 use lib.Seq.{length-take-le}
 use lib.Dec.{eqb, leb}
 use borrow.Author.Tests.{leb-true, ne_eqb}
+use Rattle.std.specs.Prelude.{Some}
+use Rattle.octets.specs.Absent.{unless_zero}
+use Rattle.octets.proofs.Absent.{some-unless_zero}
 use Rattle.octets.specs.Bytes.{le}
 use Rattle.octets.proofs.Tests.{both_true}
 use Rattle.condition.specs.Token.{Token, number, name, push, compares, exists, ands, ors, nots, name_ok, one_to_three, literal_at, name_long, name_at, comparison_of, operator_of, token_at, long}
@@ -51,42 +54,49 @@ pub record NameThere (s : List ℕ) (n : ℕ) : Type 0 where
   pub five : 5 ≤ n
   pub within : n ≤ length s
 
-module _ (s : List ℕ) (n : ℕ) (e : n ≡ long_of (token_at s)) (p : 0 < n) where
+-- as the code finds how long it is
+module _ (s : List ℕ) (n : ℕ) (h : Some n ≡ unless_zero (long_of (token_at s))) where
+  e : n ≡ long_of (token_at s)
+  e = sym (some-unless_zero (long_of (token_at s)) n (sym h)).0
+
+  p : 0 < n
+  p = (some-unless_zero (long_of (token_at s)) n (sym h)).1
+
   literal-at : get_or s 0 0 ≡ 0x04 → token_at s ≡ literal_at s
   unfolding token_at
-  literal-at h = rw h
+  literal-at z = rw z
 
   name-at : get_or s 0 0 ≡ 0xF8 → token_at s ≡ name_at s
   unfolding token_at
-  name-at h = rw h
+  name-at z = rw z
 
   -- a literal
   literal-test : get_or s 0 0 ≡ 0x04 → (leb 11 (length s) && (one_to_three (get_or s 9 0) && one_to_three (get_or s 10 0))) ≡ true
   unfolding literal_at
-  literal-test h = there _ (push (number (le 8 (drop 1 s)))) (omega (arith, ap long_of (literal-at h)))
+  literal-test z = there _ (push (number (le 8 (drop 1 s)))) (omega (arith, e, p, ap long_of (literal-at z)))
 
   pub literal-there : get_or s 0 0 ≡ 0x04 → token_at s ≡ some (push (number (le 8 (drop 1 s))))
   unfolding literal_at
-  literal-there h = literal-at h ∙ some-there _ _ (literal-test h)
+  literal-there z = literal-at z ∙ some-there _ _ (literal-test z)
 
   -- a name
   name-test : get_or s 0 0 ≡ 0xF8 → (name_ok (name_long s) && leb (5 + name_long s) (length s)) ≡ true
   unfolding name_at
-  name-test h = there _ (push (name (take (name_long s) (drop 5 s)))) (omega (arith, ap long_of (name-at h)))
+  name-test z = there _ (push (name (take (name_long s) (drop 5 s)))) (omega (arith, e, p, ap long_of (name-at z)))
 
   name-is : get_or s 0 0 ≡ 0xF8 → token_at s ≡ some (push (name (take (name_long s) (drop 5 s))))
   unfolding name_at
-  name-is h = name-at h ∙ some-there _ _ (name-test h)
+  name-is z = name-at z ∙ some-there _ _ (name-test z)
 
   pub name-there : get_or s 0 0 ≡ 0xF8 → NameThere s n
   unfolding long_of long
-  name-there h =
-      let w : 5 + name_long s ≤ length s = leb-true (5 + name_long s) (length s) (both_true (name_ok (name_long s)) _ (name-test h)).1 in
+  name-there z =
+      let w : 5 + name_long s ≤ length s = leb-true (5 + name_long s) (length s) (both_true (name_ok (name_long s)) _ (name-test z)).1 in
       let l = length-take-le (name_long s) (drop 5 s) (omega (arith, length-drop 5 s)) in
-      let m : n ≡ 5 + length (take (name_long s) (drop 5 s)) = e ∙ ap long_of (name-is h) in
+      let m : n ≡ 5 + length (take (name_long s) (drop 5 s)) = e ∙ ap long_of (name-is z) in
       let k : name_long s ≡ n - 5 = omega arith in
       record {
-        is = name-is h ∙ ap (λ (j : ℕ). some (push (name (take j (drop 5 s))))) k;
+        is = name-is z ∙ ap (λ (j : ℕ). some (push (name (take j (drop 5 s))))) k;
         five = omega arith;
         within = omega arith;
       }
@@ -97,16 +107,16 @@ module _ (s : List ℕ) (n : ℕ) (e : n ≡ long_of (token_at s)) (p : 0 < n) w
   operator-there f g = rw (ne_eqb (get_or s 0 0) 0x04 f, ne_eqb (get_or s 0 0) 0xF8 g)
 
   pub bytes-there : 0 < length s
-  bytes-there = bytes_of s (omega arith)
+  bytes-there = bytes_of s (omega (arith, e, p))
 
   -- all its bytes are there
   pub token-within : n ≤ length s
   unfolding long_of long
   token-within =
       elim (ℕ_discrete (get_or s 0 0) 0x04) [
-        | yes h ↦ omega (arith, ap long_of (literal-there h), leb-true 11 (length s) (both_true (leb 11 (length s)) _ (literal-test h)).0)
+        | yes z ↦ omega (arith, e, ap long_of (literal-there z), leb-true 11 (length s) (both_true (leb 11 (length s)) _ (literal-test z)).0)
         | no f ↦ elim (ℕ_discrete (get_or s 0 0) 0xF8) [
-          | yes h ↦ (name-there h).within
-          | no g ↦ omega (arith, ap long_of (operator-there f g), operator-long (get_or s 0 0), bytes-there)
+          | yes z ↦ (name-there z).within
+          | no g ↦ omega (arith, e, ap long_of (operator-there f g), operator-long (get_or s 0 0), bytes-there)
         ]
       ]

@@ -7,6 +7,8 @@ use Prim.Native.Nat.{ℕ, zero, suc, ◌≤◌, ◌<◌}
 use native.Mathlib.Omega.{arith}
 use lib.ListN.{length, take, drop, length-take, length-drop}
 use lib.Seq.{drop-drop}
+use Rattle.octets.specs.Absent.{unless_zero}
+use Rattle.octets.proofs.Absent.{unless_zero-some}
 use Rattle.octets.proofs.Same.{same_true}
 use Rattle.condition.specs.Token.{number, name, Token, push, compares, exists, ands, ors, nots, token_at, long, long_all, over, tokens_in}
 use Rattle.condition.specs.Kind.{condition, kinds_from, marked, zeros, tokens_end, accepted_of, end_by, stored_end}
@@ -30,7 +32,7 @@ long-some nots = omega arith
 -- a token at the front is no longer than the bytes
 pub token-fits : (t : Token) (s : List ℕ) → token_at s ≡ some t → long t ≤ length s
 unfolding long_of
-token-fits t s h = token-within s (long t) (sym (ap long_of h)) (long-some t)
+token-fits t s h = token-within s (long t) (sym (ap (λ (o : Option Token). unless_zero (long_of o)) h ∙ unless_zero-some (long t) (long-some t)))
 
 -- ---- many tokens
 

@@ -6,12 +6,13 @@ use mathlib.Core.Option.{Option, none, some, bind}
 use Prim.Native.Nat.{ℕ, zero, suc}
 use lib.ListN.{take, drop, replicate}
 use lib.IntN.{pos, negsuc}
+use Rattle.std.specs.Prelude.{Result, Ok, Err}
 use Rattle.octets.specs.Bytes.{le, same_bytes}
 use Rattle.octets.specs.Order.{need}
 use Rattle.condition.specs.declared.truths.Truth.{Truth}
 use Rattle.condition.specs.declared.truths.Truth.TheVariants.{False, True, Unknown}
-use Rattle.condition.specs.declared.Evaluated.{Evaluated}
-use Rattle.condition.specs.declared.Evaluated.TheVariants.{Done, Refused}
+use Rattle.refusal.specs.declared.Refusal.{Refusal}
+use Rattle.refusal.specs.declared.Refusal.TheVariants.{Expression, Table}
 use Rattle.condition.specs.Token.{Compare, equal, unequal, below, at_most, above, at_least, number, name, Token, push, compares, exists, ands, ors, nots}
 use Rattle.condition.specs.Token.{name_ok, one_to_three, literal_at, name_at, comparison_of, operator_of, token_at, long, long_all, over, tokens_in, signed}
 use Rattle.condition.specs.Kind.{operand_kind, is_operand, is_named, is_condition, taking, kinds_after, kinds_from, one_left, marked, zeros, acceptable, accepted_of, end_by, stored_end, up_to_four, stored_alone}
@@ -488,13 +489,13 @@ records-worked = (refl, refl)
 pub record Question : Type 0 where
   pub expression : List ℕ
   pub table : List ℕ
-  pub answer : Evaluated
+  pub answer : Result Truth Refusal
 
 says : List ℕ → List ℕ → Truth → Question
-says s t v = record { expression = s; table = t; answer = Done v }
+says s t v = record { expression = s; table = t; answer = Ok v }
 
-refuses : List ℕ → List ℕ → ℕ → Question
-refuses s t n = record { expression = s; table = t; answer = Refused n }
+refuses : List ℕ → List ℕ → Refusal → Question
+refuses s t why = record { expression = s; table = t; answer = Err why }
 
 -- tables: level is n; a is n, b is n; a name twice
 abbrev level_is : ℕ → List ℕ
@@ -557,29 +558,29 @@ questions =
     ∷ says (stored (times 15 same ∷ times 14 both ∷ [])) (a_is 1 ++ b_is 1) True
     -- zeros: 31 bytes and one, and no others; 20 and none; 21 and three; 22 and two
     ∷ says (enough ++ replicate 1 0) (level_is 3) True
-    ∷ refuses (enough ++ replicate 2 0) (level_is 3) 15
-    ∷ refuses (enough ++ replicate 5 0) (level_is 3) 15
-    ∷ refuses (has_level ++ replicate 1 0) (level_is 3) 15
-    ∷ refuses (has_level ++ replicate 4 0) (level_is 3) 15
+    ∷ refuses (enough ++ replicate 2 0) (level_is 3) Expression
+    ∷ refuses (enough ++ replicate 5 0) (level_is 3) Expression
+    ∷ refuses (has_level ++ replicate 1 0) (level_is 3) Expression
+    ∷ refuses (has_level ++ replicate 4 0) (level_is 3) Expression
     ∷ says lacks_level (level_is 3) False
-    ∷ refuses (lacks_level ++ replicate 1 0) (level_is 3) 15
-    ∷ refuses (lacks_level ++ replicate 2 0) (level_is 3) 15
+    ∷ refuses (lacks_level ++ replicate 1 0) (level_is 3) Expression
+    ∷ refuses (lacks_level ++ replicate 2 0) (level_is 3) Expression
     ∷ says (lacks_level ++ replicate 3 0) (level_is 3) False
-    ∷ refuses (lacks_level ++ replicate 4 0) (level_is 3) 15
+    ∷ refuses (lacks_level ++ replicate 4 0) (level_is 3) Expression
     ∷ says has_level_still (level_is 3) True
-    ∷ refuses (has_level_still ++ replicate 1 0) (level_is 3) 15
+    ∷ refuses (has_level_still ++ replicate 1 0) (level_is 3) Expression
     ∷ says (has_level_still ++ replicate 2 0) (level_is 3) True
-    ∷ refuses (has_level_still ++ replicate 3 0) (level_is 3) 15
+    ∷ refuses (has_level_still ++ replicate 3 0) (level_is 3) Expression
     -- 15 of an expression that isn't acceptable, before 23; 15 of its zeros, before 23; 23; 23 where no name is asked for
-    ∷ refuses [] [] 15
-    ∷ refuses [] twice 15
-    ∷ refuses (stored (level ∷ [])) (level_is 3) 15
-    ∷ refuses (stored (level ∷ [])) twice 15
-    ∷ refuses (enough ++ replicate 2 0) twice 15
-    ∷ refuses enough twice 23
-    ∷ refuses (enough ++ replicate 1 0) (level_is 3 ++ (0 ∷ [])) 23
-    ∷ refuses (stored (three ∷ three ∷ eq ∷ [])) (take 11 (a_is 1)) 23
-    ∷ refuses (stored (three ∷ three ∷ eq ∷ [])) (many 33) 23
+    ∷ refuses [] [] Expression
+    ∷ refuses [] twice Expression
+    ∷ refuses (stored (level ∷ [])) (level_is 3) Expression
+    ∷ refuses (stored (level ∷ [])) twice Expression
+    ∷ refuses (enough ++ replicate 2 0) twice Expression
+    ∷ refuses enough twice Table
+    ∷ refuses (enough ++ replicate 1 0) (level_is 3 ++ (0 ∷ [])) Table
+    ∷ refuses (stored (three ∷ three ∷ eq ∷ [])) (take 11 (a_is 1)) Table
+    ∷ refuses (stored (three ∷ three ∷ eq ∷ [])) (many 33) Table
     ∷ says (stored (three ∷ three ∷ eq ∷ [])) (many 32) True
     ∷ []
 

@@ -1,7 +1,5 @@
-pub mod Marks
 pub mod Effects
 pub mod Records
-pub mod Signs
 pub mod Keys
 pub mod Stack
 pub mod Turns

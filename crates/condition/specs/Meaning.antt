@@ -1,12 +1,12 @@
 -- What an expression says under a table (RULES 11.6, 11.7): token by token, with an operand or a condition at each place of the stack.
-use Rattle.std.specs.Prelude.{ℕ, List, [], ◌∷◌, Bool, cond, not, ◌&&◌, ℤ}
+use Rattle.std.specs.Prelude.{ℕ, List, [], ◌∷◌, Bool, cond, not, ◌&&◌, ℤ, Result, Ok, Err}
 use Rattle.std.proofs.Math.Option.{Option, none, some, bind}
 use Rattle.std.specs.Int.Signed.{lt_z, le_z}
+use Rattle.refusal.specs.declared.Refusal.{Refusal}
+use Rattle.refusal.specs.declared.Refusal.TheVariants.{Expression, Table}
 use Rattle.octets.specs.Order.{need}
 use Rattle.condition.specs.declared.truths.Truth.{Truth}
 use Rattle.condition.specs.declared.truths.Truth.TheVariants.{False, True, Unknown}
-use Rattle.condition.specs.declared.Evaluated.{Evaluated}
-use Rattle.condition.specs.declared.Evaluated.TheVariants.{Done, Refused}
 use Rattle.condition.specs.Token.{Compare, equal, unequal, below, at_most, above, at_least, Operand, number, name, Token, push, compares, exists, ands, ors, nots, signed}
 use Rattle.condition.specs.Kind.{accepted_of, stored_alone}
 use Rattle.condition.specs.Table.{Attribute, attributes_of, value_in, missing, table_ok}
@@ -138,8 +138,8 @@ abbrev pub said_by : List ℕ → List ℕ → Truth
 said_by s table = truth_by (attributes_of table) (accepted_of s)
 
 -- the evaluator's answer: 15, not an acceptable expression alone; 23, not a table so made; then what it says
-unfoldable pub evaluate_of : List ℕ → List ℕ → Evaluated
+unfoldable pub evaluate_of : List ℕ → List ℕ → Result Truth Refusal
 evaluate_of s table =
-    need (stored_alone s) (Refused 15)
-    (need (table_ok table) (Refused 23)
-    (Done (said_by s table)))
+    need (stored_alone s) (Err Expression)
+    (need (table_ok table) (Err Table)
+    (Ok (said_by s table)))

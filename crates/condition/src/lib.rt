@@ -1,42 +1,37 @@
 // Conditional expressions in their stored form: which are acceptable, and what they say under a table of names.
 #![tactic(auto)]
 
-ghost use Rattle.std.specs.Prelude.{◌≡◌};
+ghost use Rattle.std.specs.Prelude.{◌≡◌, ◌<◌};
+ghost use Rattle.octets.specs.Absent.{unless_zero};
 ghost use Rattle.condition.specs.Kind.{stored_end, stored_alone};
 ghost use Rattle.condition.specs.Table.{table_ok};
 ghost use Rattle.condition.specs.Meaning.{said_by, evaluate_of};
 
 mod cells;
+mod operators;
 mod runs;
+mod stacks;
 mod tables;
 mod tokens;
 mod truths;
 
+use refusal::Refusal;
 use runs::run;
 use tables::well_made;
 pub use truths::Truth;
 
-// What an expression says under a table, or the number of a refusal.
-#[derive(Clone, Copy)]
-pub enum Evaluated {
-    Done(Truth),
-    Refused(u8),
-}
-
-// Where the tokens of an acceptable expression end; 0 where it isn't acceptable.
-pub fn check(expression: &[u8]) -> usize
-    ensures { result ≡ stored_end expression.now }
+// Where the tokens of an acceptable expression end; none where it isn't acceptable.
+pub fn check(expression: &[u8]) -> Option<usize>
+    ensures { result ≡ unless_zero (stored_end expression.now) }
 {
-    let ran = run(expression, octets::part_of(expression, 0, 0));
-    ran.end
+    run(expression, &[]).map(|ran| ran.end)
 }
 
 // What an acceptable expression says under a table; of any other bytes nothing is known.
 pub fn said(expression: &[u8], table: &[u8]) -> Truth
     ensures { result ≡ said_by expression.now table.now }
 {
-    let ran = run(expression, table);
-    ran.truth
+    run(expression, table).map_or(Truth::Unknown, |ran| ran.truth)
 }
 
 // Whether a table of names is made as it must be.
@@ -47,30 +42,24 @@ pub fn table_ok(table: &[u8]) -> bool
 }
 
 // Whether an expression, whose tokens end at `end`, is alone: without padding, or padded to a multiple of four.
+#[tactic(auto, unfolding(crate::specs::Kind::stored_alone, crate::specs::Kind::up_to_four))]
 fn is_alone(expression: &[u8], end: usize) -> bool
-    requires { end ≡ stored_end expression.now }
+    requires { (end ≡ stored_end expression.now) × (0 < end) }
     ensures { result ≡ stored_alone expression.now }
 {
-    if end == 0 {
-        return false;
-    }
-    if expression.len() == end {
-        return true;
-    }
-    expression.len() == 4 * ((end + 3) / 4)
+    expression.len() == end || expression.len() == 4 * end.div_ceil(4)
 }
 
-// What an expression, alone, says under a table: 15 where it isn't acceptable, 23 where the table isn't made so.
-pub fn evaluate(expression: &[u8], table: &[u8]) -> Evaluated
+// What an expression, alone, says under a table; refused where it isn't acceptable, and where the table isn't made so.
+pub fn evaluate(expression: &[u8], table: &[u8]) -> Result<Truth, Refusal>
     ensures { result ≡ evaluate_of expression.now table.now }
 {
-    let ran = run(expression, table);
+    let ran = run(expression, table).ok_or(Refusal::Expression)?;
     if !is_alone(expression, ran.end) {
-        return Evaluated::Refused(15);
+        return Err(Refusal::Expression);
     }
     if !table_ok(table) {
-        return Evaluated::Refused(23);
+        return Err(Refusal::Table);
     }
-    let truth = ran.truth;
-    Evaluated::Done(truth)
+    Ok(ran.truth)
 }

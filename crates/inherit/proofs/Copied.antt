@@ -4,6 +4,7 @@ use mathlib.Core.Bool.{Bool, true, false, not, cond, ◌&&◌, and-false, or-tru
 use mathlib.Core.List.{List, [], ◌∷◌, ◌++◌, append_assoc}
 use mathlib.Core.Logic.{◌⊎◌, inl, inr}
 use mathlib.Core.Option.{none, some}
+use Rattle.std.proofs.Common.{Option, Some}
 use Prim.Native.Nat.{ℕ}
 use native.Mathlib.Omega.{arith}
 use lib.ListN.{length, set, length-append}
@@ -24,7 +25,7 @@ use Rattle.inherit.specs.Last.{resolved}
 use Rattle.inherit.specs.Said.{Stands, Copied}
 use Rattle.inherit.specs.Inner.Source.{given}
 use Rattle.inherit.specs.Inner.Emit.{takes_by, flags_by, emit_of, emit_all}
-use Rattle.inherit.specs.Inner.Plan.{parent_only, own_only, planned}
+use Rattle.inherit.specs.Inner.Plan.{parent_only, merged_of, own_only, planned}
 use Rattle.inherit.proofs.Planned.{plan_for}
 
 -- an entry that stands among some stands among more: with others after them, or before them
@@ -81,7 +82,7 @@ module _ (g : Given) (q : Plan) (ps cs ds : List (List ℕ)) where
   part p = emit_all g p (over p)
 
   -- what a pass gives, the plan gives
-  stands-planned : (p : Pass) (e : List ℕ) → Stands e (part p) → Stands e (planned g q ps cs ds)
+  stands-planned : (p : Pass) (e : List ℕ) → Stands e (part p) → Stands e (planned g (Some q) ps cs ds)
   unfolding planned
   stands-planned Own e s = stands-before e (part Own) _ s
   stands-planned First e s = stands_after e (part Own) _ (stands-before e (part First) _ s)
@@ -90,7 +91,7 @@ module _ (g : Given) (q : Plan) (ps cs ds : List (List ℕ)) where
 
   -- so an entry that a pass goes over and takes stands, copied, among what the plan gives
   in-plan : (p : Pass) (e : List ℕ) (flags : ℕ) → flags ≡ flags_by p (flags_of e) → takes_by g p e ≡ true → Stands e (over p)
-      → Stands (resolved g (set e 1 flags)) (planned g q ps cs ds)
+      → Stands (resolved g (set e 1 flags)) (planned g (Some q) ps cs ds)
   in-plan p e flags f h s = rw f (stands-planned p _ (stands-emitted g p e (over p) h s))
 
 -- an entry that the first part takes is inheritable
@@ -107,21 +108,33 @@ either-takes : (takes : Plan → Bool) (b : Bool) (x y : Plan) → takes x ≡ t
 either-takes takes true x y h k = h
 either-takes takes false x y h k = k
 
+-- there is a plan, and it takes a list
+pub record Takes (takes : Plan → Bool) (o : Option Plan) : Type 0 where
+  pub plan : Plan
+  pub is : o ≡ Some plan
+  pub takes-it : takes plan ≡ true
+
 -- the plan takes the parent's entries, the creator's, the default list's
 module _ (a : Asked) where
   takes-parent : any_heritable (entries_if a.parent) ≡ true → (a.creator ≡ none) ⊎ ((a.default-descriptor ≡ true) ⊎ (takes_p a ≡ true))
-      → (plan_for a).parent ≡ true
-  takes-parent h (inl n) = rw (h, n)
-  takes-parent h (inr (inl d)) = rw (h, d, and-false (given a.creator))
-  takes-parent h (inr (inr t)) = rw h (either-takes (λ q. q.parent) (given a.creator && not a.default-descriptor) _ parent_only t refl)
+      → Takes (λ q. q.parent) (plan_for a)
+  takes-parent h (inl n) = rw (h, n) (record { plan = _; is = refl; takes-it = refl })
+  takes-parent h (inr (inl d)) = rw (h, d, and-false (given a.creator)) (record { plan = _; is = refl; takes-it = refl })
+  takes-parent h (inr (inr t)) =
+      rw h
+      (record { plan = _; is = refl; takes-it = either-takes (λ q. q.parent) (given a.creator && not a.default-descriptor) _ parent_only t refl })
 
   takes-own : a.rule ≡ 2 → given a.creator ≡ true → (any_heritable (entries_if a.parent) ≡ false) ⊎ (a.default-descriptor ≡ false)
-      → (plan_for a).own ≡ true
-  takes-own r c (inl n) = rw (n, c)
-  takes-own r c (inr d) = rw (r, c, d) (either-takes (λ q. q.own) (any_heritable (entries_if a.parent)) _ own_only refl refl)
+      → Takes (λ q. q.own) (plan_for a)
+  takes-own r c (inl n) = rw (n, c) (record { plan = _; is = refl; takes-it = refl })
+  takes-own r c (inr d) = rw (r, c, d) (by (any_heritable (entries_if a.parent)))
+    where
+      by : (h : Bool) → Takes (λ q. q.own) (cond h (Some (merged_of true a.auto-inherit a.protected)) (Some own_only))
+      by true = record { plan = _; is = refl; takes-it = refl }
+      by false = record { plan = _; is = refl; takes-it = refl }
 
-  takes-default : any_heritable (entries_if a.parent) ≡ false → a.creator ≡ none → given a.default ≡ true → (plan_for a).default ≡ true
-  takes-default n c d = rw (n, c, d)
+  takes-default : any_heritable (entries_if a.parent) ≡ false → a.creator ≡ none → given a.default ≡ true → Takes (λ q. q.default) (plan_for a)
+  takes-default n c d = rw (n, c, d) (record { plan = _; is = refl; takes-it = refl })
 
 -- an entry of a list that was given stands, copied, among the entries that the plan gives
 pub planned-stands : (a : Asked) → a.rule ≡ 2 → (e : List ℕ) (flags : ℕ) → Copied a e flags
@@ -129,13 +142,16 @@ pub planned-stands : (a : Asked) → a.rule ≡ 2 → (e : List ℕ) (flags : �
 unfolding takes_by flags_by kept_flags
 planned-stands a r e flags (inl i) =
     let h = stands-heritable e _ (first-heritable (given_in a) e i.takes) i.stands in
-    in-plan (given_in a) (plan_for a) _ _ _ First e flags i.flags-are i.takes (rw (takes-parent a h i.taken) i.stands)
+    let t = takes-parent a h i.taken in
+    rw t.is (in-plan (given_in a) t.plan _ _ _ First e flags i.flags-are i.takes (rw t.takes-it i.stands))
 planned-stands a r e flags (inr (inl o)) =
     let h = stands-given e a.creator o.stands in
-    in-plan (given_in a) (plan_for a) _ _ _ Own e flags o.flags-are o.takes (rw (takes-own a r h o.taken) o.stands)
+    let t = takes-own a r h o.taken in
+    rw t.is (in-plan (given_in a) t.plan _ _ _ Own e flags o.flags-are o.takes (rw t.takes-it o.stands))
 planned-stands a r e flags (inr (inr d)) =
     let h = stands-given e a.default d.stands in
-    in-plan (given_in a) (plan_for a) _ _ _ All e flags d.flags-are refl (rw (takes-default a d.nothing d.alone h) d.stands)
+    let t = takes-default a d.nothing d.alone h in
+    rw t.is (in-plan (given_in a) t.plan _ _ _ All e flags d.flags-are refl (rw t.takes-it d.stands))
 
 -- and it is whole
 pub copied-whole : (a : Asked) (rp rc rd : ℕ) → Every (Whole access rp) (entries_if a.parent) → Every (Whole access rc) (entries_if a.creator)

@@ -1,28 +1,31 @@
 -- The answer by cases: no list, no room, or a list on the front of the buffer.
-use mathlib.Core.Path.{◌≡◌, sym, ap, subst, ◌∙◌}
+use mathlib.Core.Path.{◌≡◌, refl, sym, ap, subst, ◌∙◌}
 use mathlib.Core.Bool.{Bool, true, false, cond}
 use mathlib.Core.List.{List, [], ◌∷◌, ◌++◌, flatten}
 use Prim.Native.Nat.{ℕ, ◌+◌, ◌*◌, ◌≤◌, ◌<◌}
 use native.Mathlib.Omega.{arith}
-use lib.ListN.{length, set, drop, length-append}
+use lib.ListN.{length, set, length-append}
 use borrow.Author.Tests.{le-leb, lt-leb}
+use Rattle.std.proofs.Common.{Some, None, Ok, Err}
+use Rattle.refusal.specs.Faults.{plain}
+use Rattle.refusal.specs.declared.Refusal.TheVariants.{Room}
 use Rattle.octets.specs.Bytes.{front}
 use Rattle.list.specs.Entry.{flags_of}
-use Rattle.list.specs.List.{cut, head_bytes, render}
+use Rattle.list.specs.List.{head_bytes, render}
 use Rattle.list.proofs.Parts.{render-is}
 use Rattle.list.proofs.Remade.{length-entry}
-use Rattle.inherit.specs.declared.branch.Plan.{Plan}
 use Rattle.inherit.specs.declared.passes.Measure.{Measure}
 use Rattle.inherit.specs.declared.whole.Parts.{Parts}
 use Rattle.inherit.specs.declared.copies.Pass.{Pass}
 use Rattle.inherit.specs.declared.copies.Pass.TheVariants.{First, Second, Own, All}
-use Rattle.inherit.specs.declared.Computed.TheVariants.{Present, Absent, Refused}
+use Rattle.inherit.specs.Branch.{absent, holds}
 use Rattle.inherit.specs.Asked.{Given}
 use Rattle.inherit.specs.Last.{resolved}
 use Rattle.inherit.specs.Compute.{rev_for, size_for, with_room, bytes_for, written}
 use Rattle.inherit.specs.Inner.Ending.{Ends}
+use Rattle.inherit.specs.Inner.Still.{still}
 use Rattle.inherit.specs.Inner.Emit.{takes_by, flags_by, emit_of, emit_all, measure_of}
-use Rattle.inherit.specs.Inner.Plan.{gathered, result_by}
+use Rattle.inherit.specs.Inner.Plan.{gathered}
 use Rattle.inherit.proofs.Emits.{flatten-append}
 
 -- each entry is eight bytes long at the least, so their number fits where their bytes do
@@ -57,49 +60,48 @@ header-then es out m e rev r =
     (ap (λ (x : ℕ). head_bytes x (8 + m.bytes) m.count) r ∙ ap (λ (z : Measure). head_bytes (cond z.object 4 2) (8 + z.bytes) z.count) e)
     ∙ ap (λ (w : List ℕ). front w out) (sym (render-is (rev_for es) es))
 
-module _ (g : Given) (q : Plan) (n : Parts) (p c d : List ℕ) where
-  pub gathered-eight : 8 * length (gathered g n p c d) ≤ length (flatten (gathered g n p c d))
+module _ (g : Given) (n : Parts) where
+  pub gathered-eight : 8 * length (gathered g n) ≤ length (flatten (gathered g n))
   gathered-eight =
-      let a = cut n.own.count (drop 8 c) in
-      let b = cut n.parent.count (drop 8 p) in
-      let e = cut n.default.count (drop 8 d) in
+      let a = still n.own in
+      let b = still n.parent in
+      let e = still n.default in
       append-eight (emit_all g Own a) (emit_all g First b ++ (emit_all g Second b ++ emit_all g All e)) (all-eight g Own a)
       (append-eight (emit_all g First b) (emit_all g Second b ++ emit_all g All e) (all-eight g First b)
       (append-eight (emit_all g Second b) (emit_all g All e) (all-eight g Second b) (all-eight g All e)))
 
-  module _ (out : List ℕ) where
-    pub fill-absent : q.absent ≡ true → Ends (result_by q (gathered g n p c d)) out Absent out
-    unfolding with_room result_by written
-    fill-absent h = record { answer = record { values = rw h; refuses = rw h }; buffer = rw h }
+-- no list at all
+pub ends-absent : (out : List ℕ) → Ends absent out (Ok None) out
+unfolding with_room written
+ends-absent out = record { answer = record { values = refl; refuses = refl }; buffer = refl }
 
-    module _ (h : q.absent ≡ false) where
-      pub fill-short : length out < size_for (gathered g n p c d) → Ends (result_by q (gathered g n p c d)) out (Refused 8 0 0) out
-      unfolding with_room result_by written
-      fill-short k =
-          let e = lt-leb (size_for (gathered g n p c d)) (length out) k in
-          record { answer = record { values = rw (h, e); refuses = rw (h, e) }; buffer = rw (h, e) }
+module _ (es : List (List ℕ)) (control : ℕ) (out : List ℕ) where
+  pub ends-short : length out < size_for es → Ends (holds es control) out (Err (plain Room)) out
+  unfolding with_room written
+  ends-short k =
+      let e = lt-leb (size_for es) (length out) k in
+      record { answer = record { values = rw e; refuses = rw e }; buffer = rw e }
 
-      pub fill-long : size_for (gathered g n p c d) ≤ length out → 65532 < size_for (gathered g n p c d) → Ends (result_by q (gathered g n p c d)) out (Refused 8 0 0) out
-      unfolding with_room result_by written
-      fill-long k m =
-          let e = le-leb (size_for (gathered g n p c d)) (length out) k in
-          let f = lt-leb (size_for (gathered g n p c d)) 65532 m in
-          record { answer = record { values = rw (h, e, f); refuses = rw (h, e, f) }; buffer = rw (h, e, f) }
+  pub ends-long : size_for es ≤ length out → 65532 < size_for es → Ends (holds es control) out (Err (plain Room)) out
+  unfolding with_room written
+  ends-long k m =
+      let e = le-leb (size_for es) (length out) k in
+      let f = lt-leb (size_for es) 65532 m in
+      record { answer = record { values = rw (e, f); refuses = rw (e, f) }; buffer = rw (e, f) }
 
-      pub fill_done : size_for (gathered g n p c d) ≤ length out → size_for (gathered g n p c d) ≤ 65532 → (out' : List ℕ)
-          → out' ≡ front (render (rev_for (gathered g n p c d)) (gathered g n p c d)) out
-          → Ends (result_by q (gathered g n p c d)) out (Present (size_for (gathered g n p c d)) (length (gathered g n p c d)) q.control) out'
-      unfolding with_room result_by written bytes_for
-      fill_done k m out' o =
-          let e = le-leb (size_for (gathered g n p c d)) (length out) k in
-          let f = le-leb (size_for (gathered g n p c d)) 65532 m in
-          record { answer = record { values = rw (h, e, f); refuses = rw (h, e, f) }; buffer = rw (h, e, f) o }
+  ends_done : size_for es ≤ length out → size_for es ≤ 65532 → (out' : List ℕ) → out' ≡ front (render (rev_for es) es) out
+      → Ends (holds es control) out (Ok (Some (record { length = size_for es; count = length es; control = control }))) out'
+  unfolding with_room written bytes_for
+  ends_done k m out' o =
+      let e = le-leb (size_for es) (length out) k in
+      let f = le-leb (size_for es) 65532 m in
+      record { answer = record { values = rw (e, f); refuses = rw (e, f) }; buffer = rw (e, f) o }
 
-      -- the same, of the measure that the code has
-      pub fill-measured : (m : Measure) → m ≡ measure_of (gathered g n p c d) → 8 + m.bytes ≤ length out → 8 + m.bytes ≤ 65532
-          → (out' : List ℕ) → out' ≡ front (render (rev_for (gathered g n p c d)) (gathered g n p c d)) out
-          → Ends (result_by q (gathered g n p c d)) out (Present (8 + m.bytes) m.count q.control) out'
-      fill-measured m e k j out' o =
-          let b = ap (λ (z : Measure). z.bytes) e in
-          subst (λ (z : Measure). Ends (result_by q (gathered g n p c d)) out (Present (8 + z.bytes) z.count q.control) out') (sym e)
-          (fill_done (omega arith) (omega arith) out' o)
+  -- the same, of the measure that the code has
+  pub ends-measured : (m : Measure) → m ≡ measure_of es → 8 + m.bytes ≤ length out → 8 + m.bytes ≤ 65532
+      → (out' : List ℕ) → out' ≡ front (render (rev_for es) es) out
+      → Ends (holds es control) out (Ok (Some (record { length = 8 + m.bytes; count = m.count; control = control }))) out'
+  ends-measured m e k j out' o =
+      let b = ap (λ (z : Measure). z.bytes) e in
+      subst (λ (z : Measure). Ends (holds es control) out (Ok (Some (record { length = 8 + z.bytes; count = z.count; control = control }))) out') (sym e)
+      (ends_done (omega arith) (omega arith) out' o)

@@ -14,7 +14,7 @@ use Rattle.inherit.specs.Branch.{result_of}
 use Rattle.inherit.specs.Compute.{compute_of, bytes_for}
 use Rattle.inherit.specs.Said.{Stands, Kept, given_entries}
 use Rattle.inherit.specs.Inner.Emit.{emit_of}
-use Rattle.inherit.specs.Inner.Source.{source_of}
+use Rattle.inherit.specs.Inner.Source.{reads_if}
 use Rattle.inherit.proofs.Planned.{plan_for}
 use Rattle.inherit.proofs.Sources.{wholes-of}
 use Rattle.inherit.proofs.Results.{Small, every-is, emit-kept, every-planned-by}
@@ -39,8 +39,8 @@ module _ (all : List (List ℕ)) where
   abbrev Noted : ℕ → List ℕ → Type 0
   Noted rev e = Whole access rev e × Stands e all
 
-  noted : (o : MaybeList) → (source_of o).number ≡ 0 → ((e : List ℕ) → Stands e (entries_if o) → Stands e all) → Every (Noted (source_of o).rev) (entries_if o)
-  noted o h f = every-both (Whole access (source_of o).rev) (λ e. Stands e all) (entries_if o) (wholes-of o h) (every-to (λ e. Stands e (entries_if o)) (λ e. Stands e all) f (entries_if o) (each-behind [] (entries_if o)))
+  noted : (o : MaybeList) → reads_if o ≡ true → ((e : List ℕ) → Stands e (entries_if o) → Stands e all) → Every (Noted 4) (entries_if o)
+  noted o h f = every-both (Whole access 4) (λ e. Stands e all) (entries_if o) (wholes-of o h) (every-to (λ e. Stands e (entries_if o)) (λ e. Stands e all) f (entries_if o) (each-behind [] (entries_if o)))
 
   -- what it gives in a pass has its type and expression
   noted-kept : (g : Given) → is_sid g.owner ≡ true → is_sid g.group ≡ true → (rev : ℕ) (p : Pass) (e : List ℕ) → Noted rev e → Every (λ x. Small x → Kept all x) (emit_of g p e)

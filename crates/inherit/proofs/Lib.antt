@@ -1,4 +1,6 @@
 pub mod Worked
+pub mod Heads
+pub mod Turns
 pub mod Types
 pub mod Lying
 pub mod Flags
@@ -11,11 +13,11 @@ pub mod Planned
 pub mod Results
 pub mod Copied
 pub mod Gather
-pub mod Search
 pub mod Fills
 pub mod Sources
 pub mod Refusals
 pub mod Runs
+pub mod Ended
 pub mod Theorems
 pub mod Mended
 pub mod Kept

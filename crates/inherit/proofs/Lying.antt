@@ -1,16 +1,24 @@
 -- The bytes of an entry, its head first; and the parts of a good entry, as the code cuts them out of what it begins: by a look at it.
 use mathlib.Core.Path.{◌≡◌, refl, sym, ap, ap₂, ◌∙◌}
+use mathlib.Core.Bool.{true, false}
+use Rattle.std.proofs.Common.{Option, Some, None}
+use Rattle.std.specs.Option.{is_some}
 use mathlib.Core.List.{List, [], ◌∷◌, ◌++◌, append_assoc}
 use Prim.Native.Nat.{ℕ, ◌+◌, ◌-◌, ◌≤◌}
 use native.Mathlib.Omega.{arith}
 use lib.ListN.{length, take, drop, length-drop}
 use lib.Seq.{take-add, drop-drop, length-take-le}
 use Rattle.octets.specs.Bytes.{spell}
-use Rattle.list.specs.Identity.{length_of_sid, placeholder_of}
-use Rattle.list.specs.Entry.{kind_of, size_of, sid_at, sid_len_of, sid_end, middle_of, sid_of, tail_of, EntryParts, entry_bytes}
+use Rattle.list.specs.Identity.{length_of_sid, placeholder_of, placeholder_in}
+use Rattle.list.specs.declared.identities.Placeholder.{Placeholder}
+use Rattle.list.proofs.Sids.{neither-in}
+use Rattle.list.specs.Entry.{access, kind_of, size_of, sid_at, sid_len_of, sid_end, middle_of, sid_of, tail_of, EntryParts, entry_bytes}
 use Rattle.list.specs.Good.{Bounds}
 use Rattle.list.specs.Look.{look_of}
 use Rattle.list.specs.declared.looks.Look.{Look}
+use Rattle.list.proofs.Remade.{bounds}
+use Rattle.inherit.specs.declared.entries.Entry.{Entry}
+use Rattle.inherit.specs.declared.terms.Terms.{Terms}
 use Rattle.inherit.specs.Last.{in_place}
 use Rattle.inherit.specs.Inner.Emit.{put_in, copy_length, copy_parts}
 
@@ -75,6 +83,10 @@ pub record Cut (t : List ℕ) (look : Look) (n : ℕ) (owner group : List ℕ) :
   pub parts : (flags mask : ℕ) (s : List ℕ) → s ≡ put_in t owner group
       → cut_parts t look n flags mask s ≡ copy_parts flags mask t owner group
 
+none_of : (w : Option Placeholder) → is_some w ≡ false → w ≡ None
+none_of None h = refl
+none_of (Some p) h = let z : true ≡ false = h in cc
+
 module _ (t : List ℕ) (look : Look) (b : Bounds t) (q : look ≡ look_of t) where
   kinds : look.kind ≡ kind_of t
   kinds = ap (λ (x : Look). x.kind) q
@@ -86,12 +98,13 @@ module _ (t : List ℕ) (look : Look) (b : Bounds t) (q : look ≡ look_of t) wh
   whole = ap (λ (x : Look). x.size) q
 
   -- where none of the placeholders lies there
-  module _ (w : ℕ) (p : w ≡ placeholder_of (take (length_of_sid (drop look.sid t)) (drop look.sid t))) (z : w ≡ 0) (owner group : List ℕ) where
+  module _ (w : Option Placeholder) (p : w ≡ placeholder_in (placeholder_of (take (length_of_sid (drop look.sid t)) (drop look.sid t)))) (z : is_some w ≡ false)
+      (owner group : List ℕ) where
     stays : put_in t owner group ≡ sid_of t
     unfolding in_place
     stays =
         ap (λ (k : ℕ). in_place k (sid_of t) owner group)
-        (ap (λ (i : ℕ). placeholder_of (take (length_of_sid (drop i t)) (drop i t))) (sym begins) ∙ sym p ∙ z)
+        (ap (λ (i : ℕ). placeholder_of (take (length_of_sid (drop i t)) (drop i t))) (sym begins) ∙ neither-in _ (sym p ∙ none_of w z))
 
     same_size : copy_length t owner group ≡ look.size
     same_size = omega (arith, ap length stays, b.middle, b.sid-length, b.tail-length, b.eight, b.sid, whole)
@@ -142,3 +155,15 @@ module _ (t : List ℕ) (look : Look) (b : Bounds t) (q : look ≡ look_of t) wh
           long = omega (arith, b.middle, b.tail-length, b.eight, b.sid, begins, ends, whole);
           parts = λ flags mask s i. alike kinds middle-part i tail-part;
         }
+
+-- the same of an entry, at a look at it
+module _ (e : Entry) (g : Terms) (look : Look) (q : look ≡ look_of e.bytes.now) where
+  here : Bounds e.bytes.now
+  here = bounds access 4 e.bytes.now e.whole.sound
+
+  pub keeps : (w : Option Placeholder) → w ≡ placeholder_in (placeholder_of (take (length_of_sid (drop look.sid e.bytes.now)) (drop look.sid e.bytes.now)))
+      → is_some w ≡ false → Kept e.bytes.now look g.owner.now g.group.now
+  keeps w p z = kept e.bytes.now look here q w p z g.owner.now g.group.now
+
+  pub lies : (n : ℕ) → n ≡ length_of_sid (drop look.sid e.bytes.now) → Cut e.bytes.now look n g.owner.now g.group.now
+  lies n p = cut e.bytes.now look here q n p g.owner.now g.group.now

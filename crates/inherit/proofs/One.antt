@@ -7,7 +7,7 @@ use native.Mathlib.Nat.{zero-mul, one-mul, mul-le-mul}
 use native.Mathlib.Omega.{arith}
 use lib.ListN.{length}
 use lib.Dec.{eqb}
-use Rattle.list.specs.Entry.{access, object_kind, kind_of, flags_of, size_of, mask_of, entry_bytes}
+use Rattle.list.specs.Entry.{access, object_kind, kind_of, flags_of, size_of}
 use Rattle.list.specs.Good.{Sound}
 use Rattle.list.proofs.Remade.{kind-entry}
 use Rattle.inherit.specs.declared.copies.Pass.{Pass}
@@ -16,9 +16,8 @@ use Rattle.inherit.specs.declared.copies.Origin.{Origin}
 use Rattle.inherit.specs.declared.copies.Origin.TheVariants.{Own as Origin-as-Own, Parent, Default}
 use Rattle.inherit.specs.declared.passes.Measure.{Measure}
 use Rattle.inherit.specs.Asked.{Given}
-use Rattle.inherit.specs.Last.{last_mask}
 use Rattle.inherit.specs.Compute.{any_object}
-use Rattle.inherit.specs.Inner.Emit.{takes_by, flags_by, copy_length, copy_parts, copy_of, emit_of, measure_of, both, once, times_of, measure_from}
+use Rattle.inherit.specs.Inner.Emit.{takes_by, flags_by, copy_length, copy_of, emit_of, measure_of, both, once, times_of, measure_from}
 use Rattle.inherit.proofs.Emits.{emit-yes, emit-no, copy-length, copy-le}
 use Rattle.inherit.proofs.Measures.{measures}
 
@@ -57,9 +56,8 @@ module _ (rev : ℕ) (t : List ℕ) (s : Sound access rev t) (g : Given) where
       one : emit_of g p t ≡ copy_of g (flags_by p (flags_of t)) t ∷ []
       one = emit-yes g p t h (omega (arith, s.four))
 
-      pub writes_one : flatten (emit_of g p t)
-          ≡ entry_bytes (copy_parts (flags_by p (flags_of t)) (last_mask g.rule g.mapping (mask_of t)) t g.owner g.group)
-      unfolding flatten copy_of
+      pub writes_one : flatten (emit_of g p t) ≡ copy_of g (flags_by p (flags_of t)) t
+      unfolding flatten
       writes_one = ap flatten one ∙ append-nil _
 
       pub length-one : length (flatten (emit_of g p t)) ≡ copy_length t g.owner g.group

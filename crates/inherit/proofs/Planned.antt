@@ -3,6 +3,7 @@ use mathlib.Core.Path.{◌≡◌, refl, sym, ap, ap₂, ◌∙◌}
 use mathlib.Core.Bool.{Bool, true, false, not, cond, ◌&&◌}
 use mathlib.Core.List.{List, [], ◌∷◌, ◌++◌, append_assoc, append-nil}
 use mathlib.Core.Option.{none, some}
+use Rattle.std.proofs.Common.{Option, Some}
 use Prim.Native.Nat.{ℕ, ◌≤◌, ◌<◌}
 use native.Mathlib.Omega.{arith}
 use lib.ListN.{length, set}
@@ -135,20 +136,20 @@ creator-none g es a =
     ∙ ap₂ (λ (x y : List (List ℕ)). x ++ y) (first-none g (own_entries es) (mine es a)) (second_none g (own_entries es) (mine es a))
 
 -- what a plan gives of the parent's, the creator's and the default list's entries
-abbrev by_plan : Given → List (List ℕ) → List (List ℕ) → List (List ℕ) → Plan → Result
+abbrev by_plan : Given → List (List ℕ) → List (List ℕ) → List (List ℕ) → Option Plan → Result
 by_plan g ps cs ds p = result_by p (planned g p ps cs ds)
 
 -- the plan that merges, with its test for P already taken
 abbrev merging : Bool → Bool → Plan
-merging own parent = record { own = own; parent = parent; default = false; absent = false; control = cond parent (inherited_bit access) 0 }
+merging own parent = record { own = own; parent = parent; default = false; control = cond parent (inherited_bit access) 0 }
 
 -- the branches, one by one
 module _ (g : Given) (ps cs ds : List (List ℕ)) (kp : Every Known ps) (kc : Every Known cs) where
-  parent-only : holds (last_step g true (from_parent access g ps)) 0 ≡ by_plan g ps cs ds parent_only
+  parent-only : holds (last_step g true (from_parent access g ps)) 0 ≡ by_plan g ps cs ds (Some parent_only)
   unfolding planned result_by emit_all
   parent-only = rw append-nil (ap (λ (es : List (List ℕ)). holds es 0) (parent_is g ps kp true))
 
-  own-only : holds (last_step g false (own_entries cs)) 0 ≡ by_plan g ps cs ds own_only
+  own-only : holds (last_step g false (own_entries cs)) 0 ≡ by_plan g ps cs ds (Some own_only)
   unfolding planned result_by emit_all
   own-only = rw (own_is g cs kc, append-nil (emit_all g Own cs))
 
@@ -160,18 +161,18 @@ module _ (g : Given) (ps cs ds : List (List ℕ)) (kp : Every Known ps) (kc : Ev
 
   dropping-is : (t : Bool)
       → holds (last_step g true (from_creator access g cs ++ cond t (from_parent access g ps) [])) (cond t (inherited_bit access) 0)
-      ≡ by_plan g ps cs ds (merging false t)
+      ≡ by_plan g ps cs ds (Some (merging false t))
   unfolding planned result_by emit_all
   dropping-is t = rw (last-append, creator-none g cs kc, part-is true t)
 
   keeping-is : (t : Bool)
       → holds (last_step g false (own_entries cs ++ cond t (from_parent access g ps) [])) (cond t (inherited_bit access) 0)
-      ≡ by_plan g ps cs ds (merging true t)
+      ≡ by_plan g ps cs ds (Some (merging true t))
   unfolding planned result_by emit_all
   keeping-is t = rw (last-append, own_is g cs kc, part-is false t)
 
   with-is : (a : Asked) → g ≡ given_in a → with_creator access a ps cs
-      ≡ by_plan g ps cs ds (cond (not a.default-descriptor) (merged_of (not (eqb a.rule 1)) a.auto-inherit a.protected) parent_only)
+      ≡ by_plan g ps cs ds (Some (cond (not a.default-descriptor) (merged_of (not (eqb a.rule 1)) a.auto-inherit a.protected) parent_only))
   unfolding with_creator
   with-is a e = rw (← e) (by a.default-descriptor (eqb a.rule 1) (a.auto-inherit && not a.protected))
     where
@@ -179,17 +180,17 @@ module _ (g : Given) (ps cs ds : List (List ℕ)) (kp : Every Known ps) (kc : Ev
           (cond r
           (holds (last_step g true (from_creator access g cs ++ cond t (from_parent access g ps) [])) (cond t (inherited_bit access) 0))
           (holds (last_step g false (own_entries cs ++ cond t (from_parent access g ps) [])) (cond t (inherited_bit access) 0)))
-          ≡ by_plan g ps cs ds (cond (not d) (merging (not r) t) parent_only)
+          ≡ by_plan g ps cs ds (Some (cond (not d) (merging (not r) t) parent_only))
       by true r t = parent-only
       by false true t = dropping-is t
       by false false t = keeping-is t
 
 -- the plan, with the lists lent or not
-abbrev plan_with : Asked → Bool → Bool → Bool → Plan
+abbrev plan_with : Asked → Bool → Bool → Bool → Option Plan
 plan_with a heritable creator default =
     cond heritable
-    (cond (creator && not a.default-descriptor) (merged_of (not (eqb a.rule 1)) a.auto-inherit a.protected) parent_only)
-    (cond creator own_only (default_only default))
+    (Some (cond (creator && not a.default-descriptor) (merged_of (not (eqb a.rule 1)) a.auto-inherit a.protected) parent_only))
+    (cond creator (Some own_only) (default_only default))
 
 branch-is : (a : Asked) (ps : List (List ℕ)) (h : Bool) (c d : MaybeList) → a.default ≡ d → Every Known ps → Every Known (entries_if c)
     → branch access a h ps c ≡ by_plan (given_in a) ps (entries_if c) (entries_if d) (plan_with a h (given c) (given d))
@@ -202,7 +203,7 @@ branch-is a ps false none (some d) e kp kc =
 branch-is a ps false none none e kp kc = ap (from_default (given_in a)) e
 
 -- the plan for what is asked; its passes give the table's result
-abbrev pub plan_for : Asked → Plan
+abbrev pub plan_for : Asked → Option Plan
 plan_for a = plan_with a (any_heritable (entries_if a.parent)) (given a.creator) (given a.default)
 
 pub plan-is : (a : Asked) (rp rc : ℕ) → Every (Whole access rp) (entries_if a.parent) → Every (Whole access rc) (entries_if a.creator)
@@ -214,12 +215,13 @@ plan-is a rp rc wp wc =
     let cs = entries_if a.creator in
     branch-is a ps (any_heritable ps) a.creator a.default refl (every-to _ Known (known rp) ps wp) (every-to _ Known (known rc) cs wc)
 
--- the plan that the code makes
+-- a list that is lent is given, another one isn't
 pub given-lent : (b : Bool) (s : List ℕ) → given (lent b s) ≡ b
 given-lent true s = refl
 given-lent false s = refl
 
-pub plan-made : (rule : ℕ) (s : Settings) (m : Mapping) (P C D types owner group : List ℕ)
-    → plan_of rule s (any_heritable (entries_if (lent s.parent P))) ≡ plan_for (asked_by rule s m P C D types owner group)
+-- the plan that the code makes
+pub plan-made : (rule : ℕ) (s : Settings) (m : Mapping) (P C D : MaybeList) (types owner group : List ℕ)
+    → plan_of rule s (any_heritable (entries_if P)) (given C) (given D) ≡ plan_for (asked_by rule s m P C D types owner group)
 unfolding plan_of
-plan-made rule s m P C D types owner group = rw (given-lent s.creator C, given-lent s.default D)
+plan-made rule s m P C D types owner group = refl

@@ -4,12 +4,15 @@ use mathlib.Core.Bool.{true, false}
 use Prim.Native.Nat.{ℕ}
 use Rattle.octets.specs.Order.{need}
 use Rattle.list.specs.Entry.{access}
-use Rattle.list.specs.Answer.{refused}
+use Rattle.list.specs.List.{MaybeList}
+use Rattle.list.specs.Answer.{Values, refused}
 use Rattle.inherit.specs.Asked.{Asked, types_ok}
 use Rattle.inherit.specs.Branch.{result_of}
-use Rattle.inherit.specs.Compute.{ordinary, rule_ok, with_room, compute_of}
-use Rattle.inherit.specs.Inner.Source.{source_of}
-use Rattle.inherit.proofs.Sources.{readable-good, readable-bad}
+use Rattle.inherit.specs.Compute.{readable, ordinary, rule_ok, with_room, compute_of}
+
+-- list `which` leaves the answer to what follows
+abbrev pub Over : MaybeList → ℕ → Type 0
+Over o which = (rest : Values) → readable o which rest ≡ rest
 
 module _ (a : Asked) (room : ℕ) where
   pub bad-rule : rule_ok a.rule ≡ false → refused 12 0 0 ≡ compute_of a room
@@ -17,26 +20,26 @@ module _ (a : Asked) (room : ℕ) where
   bad-rule h = rw h
 
   module _ (rule : rule_ok a.rule ≡ true) where
-    pub bad-parent : ((source_of a.parent).number ≡ 0 → ⊥) → refused (source_of a.parent).number 1 (source_of a.parent).offset ≡ compute_of a room
+    pub bad-parent : (v : Values) → ((rest : Values) → readable a.parent 1 rest ≡ v) → v ≡ compute_of a room
     unfolding compute_of need
-    bad-parent h = rw rule (sym (readable-bad a.parent 1 _ h))
+    bad-parent v h = rw rule (sym (h _))
 
-    module _ (hp : (source_of a.parent).number ≡ 0) where
-      pub bad-creator : ((source_of a.creator).number ≡ 0 → ⊥) → refused (source_of a.creator).number 2 (source_of a.creator).offset ≡ compute_of a room
+    module _ (hp : Over a.parent 1) where
+      pub bad-creator : (v : Values) → ((rest : Values) → readable a.creator 2 rest ≡ v) → v ≡ compute_of a room
       unfolding compute_of need
-      bad-creator h = rw rule (sym (readable-good a.parent 1 _ hp ∙ readable-bad a.creator 2 _ h))
+      bad-creator v h = rw rule (sym (hp _ ∙ h _))
 
-      module _ (hc : (source_of a.creator).number ≡ 0) where
-        pub bad-default : ((source_of a.default).number ≡ 0 → ⊥) → refused (source_of a.default).number 3 (source_of a.default).offset ≡ compute_of a room
+      module _ (hc : Over a.creator 2) where
+        pub bad-default : (v : Values) → ((rest : Values) → readable a.default 3 rest ≡ v) → v ≡ compute_of a room
         unfolding compute_of need
-        bad-default h = rw rule (sym (readable-good a.parent 1 _ hp ∙ readable-good a.creator 2 _ hc ∙ readable-bad a.default 3 _ h))
+        bad-default v h = rw rule (sym (hp _ ∙ hc _ ∙ h _))
 
-        module _ (hd : (source_of a.default).number ≡ 0) where
+        module _ (hd : Over a.default 3) where
           -- the three lists are good: what is left of the tests
           rest : compute_of a room
               ≡ need (ordinary a.owner) (refused 6 0 0) (need (ordinary a.group) (refused 6 0 0) (need (types_ok a.types) (refused 7 0 0) (with_room room (result_of access a))))
           unfolding compute_of need
-          rest = rw rule (readable-good a.parent 1 _ hp ∙ readable-good a.creator 2 _ hc ∙ readable-good a.default 3 _ hd)
+          rest = rw rule (hp _ ∙ hc _ ∙ hd _)
 
           pub bad-owner : ordinary a.owner ≡ false → refused 6 0 0 ≡ compute_of a room
           unfolding need

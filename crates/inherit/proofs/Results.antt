@@ -7,6 +7,7 @@ use native.Mathlib.Omega.{arith}
 use lib.ListN.{length, length-append}
 use lib.Dec.{eqb}
 use borrow.Author.Tests.{eqb-false}
+use Rattle.std.proofs.Common.{Option, Some, None}
 use Rattle.list.specs.Identity.{is_sid, placeholder_of}
 use Rattle.list.specs.Entry.{access, flags_ok, object_kind, kind_of, flags_of, mask_of, word_of, sid_of, tail_of}
 use Rattle.list.specs.Good.{Whole, Every}
@@ -194,9 +195,10 @@ module _ (g : Given) (P : List ℕ → Type 0) where
   -- of entries of which something is known, by the list that they are of
   module _ (Qp Qc Qd : List ℕ → Type 0) (fp : (p : Pass) (e : List ℕ) → Qp e → Every P (emit_of g p e)) (fc : (p : Pass) (e : List ℕ) → Qc e → Every P (emit_of g p e))
       (fd : (p : Pass) (e : List ℕ) → Qd e → Every P (emit_of g p e)) where
-    pub every-planned-by : (q : Plan) (ps cs ds : List (List ℕ)) → Every Qp ps → Every Qc cs → Every Qd ds → Every P (planned g q ps cs ds)
+    pub every-planned-by : (q : Option Plan) (ps cs ds : List (List ℕ)) → Every Qp ps → Every Qc cs → Every Qd ds → Every P (planned g q ps cs ds)
     unfolding planned
-    every-planned-by q ps cs ds hp hc hd =
+    every-planned-by None ps cs ds hp hc hd = tt
+    every-planned-by (Some q) ps cs ds hp hc hd =
         let mine = emit_all g Own (cond q.own cs []) in
         let first = emit_all g First (cond q.parent ps []) in
         let second = emit_all g Second (cond q.parent ps []) in
@@ -206,7 +208,7 @@ module _ (g : Given) (P : List ℕ → Type 0) where
         (every_append P second rest (under Qp Second (fp Second) q.parent ps hp) (under Qd All (fd All) q.default ds hd)))
 
   -- of whole ones
-  every-planned : ((p : Pass) (rev : ℕ) (e : List ℕ) → Whole access rev e → Every P (emit_of g p e)) → (q : Plan) (ps cs ds : List (List ℕ)) (rp rc rd : ℕ)
+  every-planned : ((p : Pass) (rev : ℕ) (e : List ℕ) → Whole access rev e → Every P (emit_of g p e)) → (q : Option Plan) (ps cs ds : List (List ℕ)) (rp rc rd : ℕ)
       → Every (Whole access rp) ps → Every (Whole access rc) cs → Every (Whole access rd) ds → Every P (planned g q ps cs ds)
   every-planned f q ps cs ds rp rc rd = every-planned-by (Whole access rp) (Whole access rc) (Whole access rd) (λ p. f p rp) (λ p. f p rc) (λ p. f p rd) q ps cs ds
 
@@ -231,7 +233,7 @@ rev-whole es a = by (any_object es) refl
 
 -- the results of a pass and of a plan
 module _ (g : Given) (o : is_sid g.owner ≡ true) (r : is_sid g.group ≡ true) where
-  pub planned-four : (q : Plan) (ps cs ds : List (List ℕ)) (rp rc rd : ℕ)
+  pub planned-four : (q : Option Plan) (ps cs ds : List (List ℕ)) (rp rc rd : ℕ)
       → Every (Whole access rp) ps → Every (Whole access rc) cs → Every (Whole access rd) ds
       → Every (λ x. Small x → Whole access 4 x) (planned g q ps cs ds)
   planned-four =
@@ -239,19 +241,19 @@ module _ (g : Given) (o : is_sid g.owner ≡ true) (r : is_sid g.group ≡ true)
       (λ p rev e w. every-to (λ x. Small x → Whole access rev x) (λ x. Small x → Whole access 4 x) (λ x h l. whole_four access rev x (h l)) (emit_of g p e) (emit-whole g o r p rev e w))
 
   module _ (po : placeholder_of g.owner ≡ 0) (pr : placeholder_of g.group ≡ 0) where
-    pub planned-ordinary : (q : Plan) (ps cs ds : List (List ℕ)) (rp rc rd : ℕ)
+    pub planned-ordinary : (q : Option Plan) (ps cs ds : List (List ℕ)) (rp rc rd : ℕ)
         → Every (Whole access rp) ps → Every (Whole access rc) cs → Every (Whole access rd) ds
         → Every (λ x. placeholder_of (sid_of x) ≡ 0) (planned g q ps cs ds)
     planned-ordinary = every-planned g _ (λ p rev e w. emit-ordinary g o r p rev e w po pr)
 
   module _ (m : mends g.rule ≡ true) where
-    pub planned-low : (q : Plan) (ps cs ds : List (List ℕ)) (rp rc rd : ℕ)
+    pub planned-low : (q : Option Plan) (ps cs ds : List (List ℕ)) (rp rc rd : ℕ)
         → Every (Whole access rp) ps → Every (Whole access rc) cs → Every (Whole access rd) ds
         → Every Low (planned g q ps cs ds)
     planned-low = every-planned g _ (λ p rev e w. emit-low g o r p rev e w m)
 
     pub planned-again : placeholder_of g.owner ≡ 0 → placeholder_of g.group ≡ 0
-        → (q : Plan) (ps cs ds : List (List ℕ)) (rp rc rd : ℕ)
+        → (q : Option Plan) (ps cs ds : List (List ℕ)) (rp rc rd : ℕ)
         → Every (Whole access rp) ps → Every (Whole access rc) cs → Every (Whole access rd) ds
         → Every (λ x. Small x → (h : Given) → resolved h x ≡ x) (planned g q ps cs ds)
     planned-again po pr = every-planned g _ (λ p rev e w. emit-again g o r p rev e w m po pr)

@@ -7,32 +7,33 @@ use Prim.Native.Nat.{ℕ}
 use lib.ListN.{length}
 use Rattle.octets.specs.Bytes.{Bytes, le, spell}
 use Rattle.list.specs.Entry.{Family, access}
-use Rattle.list.specs.List.{entries_of, check_of, header_ok, rev_ok, walk_of, finish, MaybeList}
+use Rattle.list.specs.List.{entries_of, check_of, header_ok, rev_ok, walk_of, finish, read_as, MaybeList}
 use Rattle.list.specs.Answer.{Values}
 use Rattle.list.specs.Spare.{with_spare, bare_by, Sized}
-use Rattle.list.specs.declared.lists.Reading.{Reading}
-use Rattle.list.specs.declared.lists.Reading.TheVariants.{Done, Refused}
+use Rattle.std.proofs.Common.{Result, Ok, Err}
+use Rattle.refusal.specs.declared.Fault.{Fault}
+use Rattle.list.specs.declared.readings.Read.{Read}
 use Rattle.list.proofs.Spare.{bare_reading, bytes-sized, bare-reads, bare-entries}
 use Rattle.inherit.specs.Asked.{Asked, given_in, entries_if}
 use Rattle.inherit.specs.Copies.{any_heritable, own_entries}
 use Rattle.inherit.specs.Last.{last_step}
-use Rattle.inherit.specs.Branch.{Result, holds, with_creator, from_default, branch, result_of}
+use Rattle.inherit.specs.Branch.{Result as Computation, holds, with_creator, from_default, branch, result_of}
 use Rattle.inherit.specs.Compute.{on_reading, readable, compute_of, bytes_for, written, out_of}
 use Rattle.inherit.specs.Spare.{bare_if, with_lists, bare_asked, NoSpare, Each, Lists}
 use Rattle.inherit.proofs.Theorems.{computes, present-fits}
 
 -- ---- one list
 
-reading-unseen : (r : Reading) (which : ℕ) (rest : Values) → on_reading (bare_reading r) which rest ≡ on_reading r which rest
+reading-unseen : (r : Result Read Fault) (which : ℕ) (rest : Values) → on_reading (bare_reading r) which rest ≡ on_reading r which rest
 unfolding on_reading bare_reading
-reading-unseen (Done l n x) which rest = refl
-reading-unseen (Refused k at) which rest = refl
+reading-unseen (Ok r) which rest = refl
+reading-unseen (Err fault) which rest = refl
 
 pub readable-unseen : (o : MaybeList) (which : ℕ) (rest : Values) → Each (Sized access) o → readable (bare_if o) which rest ≡ readable o which rest
 unfolding readable bare_if
 readable-unseen none which rest z = refl
 readable-unseen (some s) which rest z =
-    ap (λ (r : Reading). on_reading r which rest) (bare-reads access s z) ∙ reading-unseen (check_of access s) which rest
+    ap (λ (r : Result Read Fault). on_reading r which rest) (bare-reads access s z) ∙ reading-unseen (check_of access s) which rest
 
 -- ---- what is computed
 
@@ -121,14 +122,14 @@ spare-unseen a b =
     let z = sized a b in
     record {
       answer = answer-unseen a z;
-      buffer = λ out. ap₂ (λ (v : Values) (r : Result). written v (bytes_for r) out) (answer-unseen a z (length out)) (result-unseen a z);
+      buffer = λ out. ap₂ (λ (v : Values) (r : Computation). written v (bytes_for r) out) (answer-unseen a z (length out)) (result-unseen a z);
     }
 
 -- a computed list has none: its entries end at its length
 pub computed-end : (a : Asked) (room : ℕ) → (compute_of a room).present ≡ 1 → NoSpare (some (bytes_for (result_of access a)))
 computed-end a room h =
     let c = computes a room h in
-    c.done ∙ ap₂ (λ (l n : ℕ). Done l n l) (present-fits a room h).0 c.listed.count
+    c.done ∙ ap₂ (λ (l n : ℕ). read_as l n l) (present-fits a room h).0 c.listed.count
 
 -- by computation: an empty list with a spare byte
 pub bare-worked : (bare_if (some (2 ∷ 0 ∷ 9 ∷ 0 ∷ 0 ∷ 0 ∷ 0 ∷ 0 ∷ 7 ∷ [])) ≡ some (2 ∷ 0 ∷ 8 ∷ 0 ∷ 0 ∷ 0 ∷ 0 ∷ 0 ∷ [])) × (bare_if none ≡ none)

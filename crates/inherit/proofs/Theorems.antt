@@ -5,6 +5,7 @@ use mathlib.Core.Bool.{Bool, true, false, cond}
 use mathlib.Core.List.{List, []}
 use mathlib.Core.Logic.{◌⊎◌, inl, inr}
 use mathlib.Core.Option.{none, some}
+use Rattle.std.proofs.Common.{Option, Some, None}
 use Prim.Native.Nat.{ℕ, ◌≤◌}
 use native.Mathlib.Omega.{arith}
 use lib.ListN.{length}
@@ -12,10 +13,9 @@ use lib.Dec.{leb}
 use borrow.Author.Tests.{leb-true}
 use Rattle.list.specs.Identity.{is_sid, placeholder_of}
 use Rattle.list.specs.Entry.{access, sid_of}
-use Rattle.list.specs.List.{entries_of, render, check_of, MaybeList}
+use Rattle.list.specs.List.{entries_of, render, check_of, read_as, MaybeList}
 use Rattle.list.specs.Good.{Whole, Listed, Every}
-use Rattle.list.specs.declared.lists.Reading.TheVariants.{Done}
-use Rattle.octets.proofs.Tests.{both_true, true-or, eq-or}
+use Rattle.octets.proofs.Tests.{both_true, true-or}
 use Rattle.list.proofs.Told.{reads}
 use Rattle.list.proofs.Parts.{Rendered, rendered, length-render}
 use Rattle.list.proofs.Revisions.{rev-known}
@@ -25,9 +25,10 @@ use Rattle.inherit.specs.Copies.{any_heritable, own_entries}
 use Rattle.inherit.specs.Last.{last_step}
 use Rattle.inherit.specs.Branch.{Result, absent, holds, from_default, branch, result_of}
 use Rattle.inherit.specs.Compute.{any_object, rev_for, size_for, fits, with_room, ordinary, rule_ok, compute_of, bytes_for}
+use Rattle.inherit.specs.declared.branch.Plan.{Plan}
 use Rattle.inherit.specs.Inner.Plan.{planned, result_by}
-use Rattle.inherit.specs.Inner.Source.{source_by, source_of}
-use Rattle.inherit.proofs.Sources.{wholes-of}
+use Rattle.inherit.specs.Inner.Source.{reads_if}
+use Rattle.inherit.proofs.Sources.{wholes-of, readable-good, readable-bad}
 use Rattle.inherit.proofs.Refusals.{bad-rule, bad-parent, bad-creator, bad-default, bad-owner, bad-group, bad-types, all-good}
 use Rattle.inherit.proofs.Planned.{plan_for, plan-is}
 use Rattle.inherit.proofs.Results.{Small, every-small, every-is, rev-whole, planned-four, planned-ordinary}
@@ -36,15 +37,17 @@ use Rattle.inherit.proofs.Runs.{one-sid-of}
 -- every test but the room's was passed
 pub record Passed (a : Asked) : Type 0 where
   pub rule : rule_ok a.rule ≡ true
-  pub parent : (source_of a.parent).number ≡ 0
-  pub creator : (source_of a.creator).number ≡ 0
-  pub default : (source_of a.default).number ≡ 0
+  pub parent : reads_if a.parent ≡ true
+  pub creator : reads_if a.creator ≡ true
+  pub default : reads_if a.default ≡ true
   pub owner : ordinary a.owner ≡ true
   pub group : ordinary a.group ≡ true
   pub kinds : types_ok a.types ≡ true
 
 pub passed-room : (a : Asked) (room : ℕ) → Passed a → compute_of a room ≡ with_room room (result_of access a)
-passed-room a room h = all-good a room h.rule h.parent h.creator h.default h.owner h.group h.kinds
+passed-room a room h =
+    all-good a room h.rule (readable-good a.parent 1 h.parent) (readable-good a.creator 2 h.creator) (readable-good a.default 3 h.default)
+    h.owner h.group h.kinds
 
 clash : {o : Values} {j w at : ℕ} → o.present ≡ 1 → refused j w at ≡ o → ⊥
 clash p q = let z = ap (λ (v : Values). v.present) q in omega arith
@@ -53,12 +56,15 @@ clash p q = let z = ap (λ (v : Values). v.present) q in omega arith
 pub passed : (a : Asked) (room : ℕ) → (compute_of a room).present ≡ 1 → Passed a
 passed a room h =
     let r : rule_ok a.rule ≡ true = true-or _ (λ x. clash h (bad-rule a room x)) in
-    let hp : (source_of a.parent).number ≡ 0 = eq-or _ _ (λ x. clash h (bad-parent a room r x)) in
-    let hc : (source_of a.creator).number ≡ 0 = eq-or _ _ (λ x. clash h (bad-creator a room r hp x)) in
-    let hd : (source_of a.default).number ≡ 0 = eq-or _ _ (λ x. clash h (bad-default a room r hp hc x)) in
-    let o : ordinary a.owner ≡ true = true-or _ (λ x. clash h (bad-owner a room r hp hc hd x)) in
-    let q : ordinary a.group ≡ true = true-or _ (λ x. clash h (bad-group a room r hp hc hd o x)) in
-    let t : types_ok a.types ≡ true = true-or _ (λ x. clash h (bad-types a room r hp hc hd o q x)) in
+    let hp : reads_if a.parent ≡ true = true-or _ (λ x. let f = readable-bad a.parent 1 x in clash h (bad-parent a room r _ f.is)) in
+    let p = readable-good a.parent 1 hp in
+    let hc : reads_if a.creator ≡ true = true-or _ (λ x. let f = readable-bad a.creator 2 x in clash h (bad-creator a room r p _ f.is)) in
+    let c = readable-good a.creator 2 hc in
+    let hd : reads_if a.default ≡ true = true-or _ (λ x. let f = readable-bad a.default 3 x in clash h (bad-default a room r p c _ f.is)) in
+    let d = readable-good a.default 3 hd in
+    let o : ordinary a.owner ≡ true = true-or _ (λ x. clash h (bad-owner a room r p c d x)) in
+    let q : ordinary a.group ≡ true = true-or _ (λ x. clash h (bad-group a room r p c d o x)) in
+    let t : types_ok a.types ≡ true = true-or _ (λ x. clash h (bad-types a room r p c d o q x)) in
     record { rule = r; parent = hp; creator = hc; default = hd; owner = o; group = q; kinds = t }
 
 -- what an answer with a list says of the result
@@ -106,9 +112,10 @@ present-fits a room h =
     ap (λ (r : Result). length (bytes_for r)) t.is ∙ length-render (rev_for t.entries) t.entries in
     (l ∙ sym e, omega (arith, l, t.fitting))
 
-by-plan : (b : Bool) (xs es : List (List ℕ)) (j k : ℕ) → cond b absent (holds xs j) ≡ holds es k → es ≡ xs
-by-plan true xs es j k h = let z : ◌≡◌ {A = ℕ} 0 1 = cc in absurd (omega arith)
-by-plan false xs es j k h = cc
+by-plan : (q : Option Plan) (xs es : List (List ℕ)) (k : ℕ) → result_by q xs ≡ holds es k → es ≡ xs
+unfolding result_by
+by-plan None xs es k h = let z : ◌≡◌ {A = ℕ} 0 1 = cc in absurd (omega arith)
+by-plan (Some q) xs es k h = cc
 
 -- the entries of a computed list: what the plan gives of whole entries
 pub record Made (a : Asked) (room : ℕ) : Type 0 where
@@ -119,16 +126,14 @@ pub record Made (a : Asked) (room : ℕ) : Type 0 where
   pub group : (is_sid a.group ≡ true) × (placeholder_of a.group ≡ 0)
 
 pub made : (a : Asked) (room : ℕ) → (compute_of a room).present ≡ 1 → Made a room
-unfolding result_by
 made a room h =
     let v = passed a room h in
     let t = told-present a room h in
-    let q = plan_for a in
     record {
       passed = v;
       told = t;
       plan =
-          by-plan q.absent _ t.entries q.control t.control
+          by-plan (plan_for a) _ t.entries t.control
           (sym (plan-is a _ _ (wholes-of a.parent v.parent) (wholes-of a.creator v.creator)) ∙ t.is);
       owner = one-sid-of a.owner v.owner;
       group = one-sid-of a.group v.group;
@@ -179,7 +184,7 @@ computed-small a room h = let m = made a room h in subst (Every Small) (sym (mad
 -- a computed list: it reads as done, with the length and the count that the answer says, its entries end at its length, and none of them names a placeholder
 pub record Computes (bytes : List ℕ) (l n : ℕ) : Type 0 where
   pub listed : Listed access bytes n
-  pub done : check_of access bytes ≡ Done l n l
+  pub done : check_of access bytes ≡ read_as l n l
   pub ordinary-sids : Every (λ e. placeholder_of (sid_of e) ≡ 0) (entries_of bytes)
 
 pub computes : (a : Asked) (room : ℕ) → (compute_of a room).present ≡ 1
@@ -215,12 +220,12 @@ only-room a room v = rw (passed-room a room v) (by (result_of access a))
     by (holds es k) = fitted (fits room es) es k
 
 -- a list of good entries passes its test
-pub listed-source : (s : List ℕ) (n : ℕ) → Listed access s n → (source_of (some s)).number ≡ 0
-unfolding source_of source_by
+pub listed-source : (s : List ℕ) (n : ℕ) → Listed access s n → reads_if (some s) ≡ true
+unfolding reads_if
 listed-source s n r = rw (reads access s n r)
 
-pub absent-source : (source_of none).number ≡ 0
-unfolding source_of
+pub absent-source : reads_if none ≡ true
+unfolding reads_if
 absent-source = refl
 
 -- a parent without inheritable entries, an empty one or an absent one among them, gives the default list, or the creator's own entries

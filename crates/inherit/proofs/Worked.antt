@@ -9,11 +9,13 @@ use Rattle.octets.specs.Bytes.{le, spell, same_bytes, guid_at, among}
 use Rattle.list.specs.Identity.{length_of_sid, is_sid, creator, placeholder_of, identity_of}
 use Rattle.octets.specs.Order.{need}
 use Rattle.list.specs.Entry.{plain_of, object_of, object_kind, kind_ok, flags_ok, head_of, word_after, entry_bytes, conditional_of, conditional_kind, expression_ok, tail_long, size_ok, entry_of}
-use Rattle.list.specs.List.{rev_ok, header_ok, cut, entries_of, head_bytes, render, on_good, walk_of, finish, check_of, MaybeList}
+use Rattle.list.specs.List.{rev_ok, header_ok, cut, entries_of, head_bytes, render, on_good, walk_of, finish, check_of, MaybeList, lent}
 use Rattle.list.specs.Answer.{Values, done, refused}
 use Rattle.list.proofs.Examples.{expression-open}
 use Rattle.inherit.specs.declared.Mapping.{Mapping}
-use Rattle.inherit.specs.declared.Computed.TheVariants.{Present, Absent, Refused}
+use Rattle.std.proofs.Common.{Some, None, Ok, Err}
+use Rattle.refusal.specs.Numbers.{number_of}
+use Rattle.refusal.specs.declared.Refusal.{Refusal}
 use Rattle.inherit.specs.Asked.{Asked, entries_if, types_ok, types_of}
 use Rattle.inherit.specs.Copies.{any_heritable, type_applies, pass, kept_flags, takes_first, first_part, takes_second, second_part, from_parent, own_entries, from_creator}
 use Rattle.inherit.specs.Last.{in_place, mapped, mends, mended, last_mask, resolved, last_of, last_step}
@@ -439,7 +441,7 @@ conditional-default = (refl, (refl, refl))
 module _ (m : Mapping) (p c d t o g : List ℕ) where
   abbrev by : Bool → Bool → Bool → Bool → Bool → Bool → Bool → Asked
   by parent creator default container auto defaulted protect =
-      asked_by 2 (record { parent = parent; creator = creator; default = default; container = container; auto = auto; defaulted = defaulted; protect = protect }) m p c d t o g
+      asked_by 2 (record { container = container; auto = auto; defaulted = defaulted; protect = protect }) m (lent parent p) (lent creator c) (lent default d) t o g
 
   abbrev asks : MaybeList → MaybeList → MaybeList → Bool → Bool → Bool → Bool → Asked
   asks parent creator default container auto defaulted protect =
@@ -466,12 +468,12 @@ module _ (m : Mapping) (p c d t o g : List ℕ) where
   arguments-worked = (refl, (refl, (refl, refl)))
 
 -- the numbers and values of each case of an answer (RULES 4.2)
-pub values-worked : (l n c k w x : ℕ)
-    → (computed_values (Present l n c) ≡ record { number = 0; list = 0; offset = 0; length = l; present = 1; count = n; control = c; end = 0 })
-    × ((computed_values Absent ≡ record { number = 0; list = 0; offset = 0; length = 0; present = 0; count = 0; control = 0; end = 0 })
-    × ((computed_values (Refused k w x) ≡ record { number = k; list = w; offset = x; length = 0; present = 0; count = 0; control = 0; end = 0 })
-    × ((is_refusal (Present l n c) ≡ false) × ((is_refusal Absent ≡ false) × (is_refusal (Refused k w x) ≡ true)))))
-values-worked l n c k w x = (refl, (refl, (refl, (refl, (refl, refl)))))
+pub values-worked : (l n c w x : ℕ) (why : Refusal)
+    → (computed_values (Ok (Some (record { length = l; count = n; control = c }))) ≡ record { number = 0; list = 0; offset = 0; length = l; present = 1; count = n; control = c; end = 0 })
+    × ((computed_values (Ok None) ≡ record { number = 0; list = 0; offset = 0; length = 0; present = 0; count = 0; control = 0; end = 0 })
+    × ((computed_values (Err (record { why = why; list = w; at = x })) ≡ record { number = number_of why; list = w; offset = x; length = 0; present = 0; count = 0; control = 0; end = 0 })
+    × ((is_refusal (Ok (Some (record { length = l; count = n; control = c }))) ≡ false) × ((is_refusal (Ok None) ≡ false) × (is_refusal (Err (record { why = why; list = w; at = x })) ≡ true)))))
+values-worked l n c w x why = (refl, (refl, (refl, (refl, (refl, refl)))))
 
 -- the longest result: 65,532 bytes, whatever room is lent; and the least room for it
 pub room-worked :

@@ -1,9 +1,15 @@
 -- What a computation is asked (RULES 2.1).
-use Rattle.std.specs.Prelude.{ℕ, ◌%◌, ◌/◌, List, [], ◌∷◌, Bool, ◌&&◌, length, take, eqb, leb}
+use Rattle.std.specs.Prelude.{ℕ, ◌%◌, ◌/◌, List, [], ◌∷◌, Bool, ◌&&◌, length, take, eqb, leb, Option, Some, None}
+use Rattle.std.specs.Borrow.{Bor}
 use Rattle.std.proofs.Math.Option.{none, some}
 use Rattle.octets.specs.Bytes.{guid_at}
 use Rattle.list.specs.List.{entries_of, MaybeList}
 use Rattle.inherit.specs.declared.Mapping.{Mapping}
+
+-- a list that is lent, or none
+abbrev pub lent_list : Option (Bor (List ℕ)) → MaybeList
+lent_list None = none
+lent_list (Some s) = some s.now
 
 -- an absent list has no entries
 unfoldable pub entries_if : MaybeList → List (List ℕ)

@@ -1,19 +1,19 @@
 -- What the computation answers for any arguments (RULES 4.4), and what the result's buffer holds afterwards (RULES 2.13, 2.14).
-use Rattle.std.specs.Prelude.{ℕ, ◌+◌, ◌≡◌, Bool, true, false, not, cond, ◌&&◌, ◌||◌, length, eqb, leb}
+use Rattle.std.specs.Prelude.{ℕ, ◌+◌, ◌≡◌, Bool, true, false, not, cond, ◌&&◌, ◌||◌, length, eqb, leb, Option, Some, None, Result as Answer, Ok, Err}
 use mathlib.Core.List.{List, [], ◌∷◌, flatten}
 use Rattle.std.proofs.Math.Option.{none, some}
 use Rattle.octets.specs.Bytes.{front}
 use Rattle.octets.specs.Order.{need}
 use Rattle.list.specs.Identity.{identity_of}
 use Rattle.list.specs.Entry.{access, object_kind, kind_of}
-use Rattle.list.specs.List.{render, check_of, MaybeList, lent}
+use Rattle.list.specs.List.{render, check_of, MaybeList}
 use Rattle.list.specs.Answer.{Values, done, refused}
-use Rattle.list.specs.declared.lists.Reading.{Reading}
-use Rattle.list.specs.declared.lists.Reading.TheVariants.{Done as Read, Refused as Unread}
+use Rattle.list.specs.declared.readings.Read.{Read}
+use Rattle.refusal.specs.Numbers.{number_of}
+use Rattle.refusal.specs.declared.Fault.{Fault}
 use Rattle.inherit.specs.declared.Settings.{Settings}
 use Rattle.inherit.specs.declared.Mapping.{Mapping}
 use Rattle.inherit.specs.declared.Computed.{Computed}
-use Rattle.inherit.specs.declared.Computed.TheVariants.{Present, Absent, Refused}
 use Rattle.inherit.specs.Asked.{Asked, types_ok}
 use Rattle.inherit.specs.Branch.{Result, absent, holds, result_of}
 
@@ -40,9 +40,9 @@ with_room room absent = done 0 0 0 0
 with_room room (holds es control) = cond (fits room es) (done (size_for es) 1 (length es) control) (refused 8 0 0)
 
 -- a list that is present reads as done, or its refusal concerns list `which`
-unfoldable pub on_reading : Reading → ℕ → Values → Values
-on_reading (Read len n end) which rest = rest
-on_reading (Unread k at) which rest = refused k which at
+unfoldable pub on_reading : Answer Read Fault → ℕ → Values → Values
+on_reading (Ok r) which rest = rest
+on_reading (Err fault) which rest = refused (number_of fault.why) which fault.at
 
 unfoldable pub readable : MaybeList → ℕ → Values → Values
 readable none which rest = rest
@@ -80,13 +80,13 @@ abbrev pub out_of : Asked → List ℕ → List ℕ
 out_of a out = written (compute_of a (length out)) (bytes_for (result_of access a)) out
 
 -- what the public call's arguments ask
-abbrev pub asked_by : ℕ → Settings → Mapping → List ℕ → List ℕ → List ℕ → List ℕ → List ℕ → List ℕ → Asked
+abbrev pub asked_by : ℕ → Settings → Mapping → MaybeList → MaybeList → MaybeList → List ℕ → List ℕ → List ℕ → Asked
 asked_by rule s mapping parent creator default types owner group =
     record {
       rule = rule;
-      parent = lent s.parent parent;
-      creator = lent s.creator creator;
-      default = lent s.default default;
+      parent = parent;
+      creator = creator;
+      default = default;
       container = s.container;
       types = types;
       owner = owner;
@@ -98,22 +98,21 @@ asked_by rule s mapping parent creator default types owner group =
     }
 
 -- the number and values (RULES 4.2) for each case of the call's answer
-abbrev pub computed_values : Computed → Values
-computed_values (Present len n control) = done len 1 n control
-computed_values Absent = done 0 0 0 0
-computed_values (Refused k which at) = refused k which at
+abbrev pub computed_values : Answer (Option Computed) Fault → Values
+computed_values (Ok (Some c)) = done c.length 1 c.count c.control
+computed_values (Ok None) = done 0 0 0 0
+computed_values (Err fault) = refused (number_of fault.why) fault.list fault.at
 
-abbrev pub is_refusal : Computed → Bool
-is_refusal (Present len n control) = false
-is_refusal Absent = false
-is_refusal (Refused k which at) = true
+abbrev pub is_refusal : Answer (Option Computed) Fault → Bool
+is_refusal (Ok c) = false
+is_refusal (Err fault) = true
 
 -- r is the answer with the values v: a refusal where its number isn't 0
-pub record Tells (r : Computed) (v : Values) : Type 0 where
+pub record Tells (r : Answer (Option Computed) Fault) (v : Values) : Type 0 where
   pub values : computed_values r ≡ v
   pub refuses : is_refusal r ≡ not (eqb v.number 0)
 
 -- the promise: the answer of what is asked, and what the buffer holds afterwards
-pub record Answers (a : Asked) (out : List ℕ) (r : Computed) (after : List ℕ) : Type 0 where
+pub record Answers (a : Asked) (out : List ℕ) (r : Answer (Option Computed) Fault) (after : List ℕ) : Type 0 where
   pub answer : Tells r (compute_of a (length out))
   pub buffer : after ≡ out_of a out

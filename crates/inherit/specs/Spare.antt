@@ -2,8 +2,7 @@
 use Rattle.std.specs.Prelude.{ℕ, ◌≡◌, List, length}
 use Rattle.std.proofs.Math.Option.{none, some}
 use Rattle.list.specs.Entry.{access}
-use Rattle.list.specs.List.{count_of, check_of, MaybeList}
-use Rattle.list.specs.declared.lists.Reading.TheVariants.{Done}
+use Rattle.list.specs.List.{count_of, check_of, read_as, MaybeList}
 use Rattle.list.specs.Spare.{bare}
 use Rattle.inherit.specs.Asked.{Asked}
 
@@ -35,7 +34,7 @@ bare_asked a = with_lists (bare_if a.parent) (bare_if a.creator) (bare_if a.defa
 -- a list that is present has no spare bytes: its entries end at its length
 abbrev pub NoSpare : MaybeList → Type 0
 NoSpare none = Unit
-NoSpare (some s) = check_of access s ≡ Done (length s) (count_of s) (length s)
+NoSpare (some s) = check_of access s ≡ read_as (length s) (count_of s) (length s)
 
 -- a list that is present has P
 abbrev pub Each : (List ℕ → Type 0) → MaybeList → Type 0

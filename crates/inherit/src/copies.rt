@@ -1,16 +1,14 @@
 // Which entries are copied, and which flags the copies get.
-ghost use Rattle.std.specs.Prelude.{◌≡◌, true, not, cond, ◌&&◌, List, ℕ, ◌≤◌, take};
-ghost use Rattle.octets.specs.Bytes.{guid_at, has as Given·has, among as Copies·among};
-ghost use Rattle.list.specs.Entry.{object_kind, flags_of};
-ghost use Rattle.list.specs.Look.{look_of};
-ghost use Rattle.inherit.specs.Copies.{takes_first};
-ghost use Rattle.inherit.specs.Inner.Emit.{given_by, takes_by, flags_by};
+ghost use Rattle.std.specs.Prelude.{◌≡◌, cond};
+ghost use Rattle.octets.specs.Bytes.{has as Given·has, among};
+ghost use Rattle.inherit.specs.Copies.{type_applies, takes_first, takes_second};
+ghost use Rattle.inherit.specs.Inner.Emit.{given_by, picked};
 
-use crate::Mapping;
-use list::Look;
+use crate::entries::Entry;
+use crate::terms::Terms;
 
 // A pass over the entries of a list: the parent's first part, its second, the creator's own entries, all of the default list.
-#[derive(Clone, Copy)]
+#[derive(Clone, Copy, Debug, PartialEq, Eq)]
 pub enum Pass {
     First,
     Second,
@@ -19,20 +17,11 @@ pub enum Pass {
 }
 
 // Which list entries come from: the creator's own, the parent's, the default list.
-#[derive(Clone, Copy)]
+#[derive(Clone, Copy, Debug, PartialEq, Eq)]
 pub enum Origin {
     Own,
     Parent,
     Default,
-}
-
-// What says how an entry is copied, but for the object types and the identities; `count` is how many object types there are.
-#[derive(Clone, Copy)]
-pub struct Terms {
-    pub rule: u32,
-    pub container: bool,
-    pub mapping: Mapping,
-    pub count: usize,
 }
 
 pub(crate) fn has(flags: u8, bit: u8) -> bool
@@ -41,96 +30,55 @@ pub(crate) fn has(flags: u8, bit: u8) -> bool
     flags & bit != 0
 }
 
-// Whether a GUID is among the first `count` object types.
-fn among(guid: [u8; 16], types: [[u8; 16]; 4], count: usize) -> bool
-    requires { count ≤ 4 }
-    ensures { result ≡ Copies·among guid (take count types) }
+// Apart, so that the test of an entry without an ObjectType stays short enough for the loops.
+#[inline(never)]
+fn among(guid: [u8; 16], types: &[[u8; 16]]) -> bool
+    ensures { result ≡ among guid types.now }
 {
-    let mut i = 0;
-    while i < count {
-        let one = types[i];
-        if list::same_guid(one, guid) {
-            return true;
-        }
-        i += 1;
-    }
-    false
+    types.contains(&guid)
 }
 
 // Types 00 and 01 always, object types if they have an ObjectType that is among the object types.
-fn type_applies(t: &[u8], kind: u8, word: u32, types: [[u8; 16]; 4], count: usize) -> bool
-    requires { count ≤ 4 }
-    ensures { result ≡ cond (object_kind kind) (Given·has 1 word && Copies·among (guid_at t.now 12) (take count types)) true }
+#[inline(always)]
+fn type_applies(entry: &Entry, terms: &Terms) -> bool
+    ensures { result ≡ type_applies (given_by terms.now) entry.now.bytes.now }
 {
-    if !list::is_object(kind) {
-        return true;
-    }
-    if word & 1 == 0 {
-        return false;
-    }
-    among(list::guid_at(t, 12), types, count)
+    !list::is_object(entry.kind())
+        || (entry.look().word & 1 != 0 && among(list::guid_at(entry.bytes, 12), terms.types))
 }
 
 // CI for a container, OI for another object.
 fn inherits(container: bool, flags: u8) -> bool
     ensures { result ≡ Given·has (cond container 2 1) flags }
 {
-    if container {
-        return has(flags, 2);
-    }
-    has(flags, 1)
+    has(flags, if container { 2 } else { 1 })
 }
 
-fn takes_first(t: &[u8], look: Look, terms: Terms, types: [[u8; 16]; 4]) -> bool
-    requires { (terms.count ≤ 4) × (look ≡ look_of t.now) }
-    ensures { (owner group : List ℕ) → result ≡ takes_first (given_by terms types owner group) t.now }
+#[inline(always)]
+fn takes_first(entry: &Entry, terms: &Terms) -> bool
+    ensures { result ≡ takes_first (given_by terms.now) entry.now.bytes.now }
 {
-    if !inherits(terms.container, look.flags) {
-        return false;
-    }
-    type_applies(t, look.kind, look.word, types, terms.count)
+    inherits(terms.container, entry.flags()) && type_applies(entry, terms)
 }
 
 // Only for a container: an inheritable entry without NP.
-fn takes_second(container: bool, flags: u8) -> bool
-    ensures { result ≡ (container && (Given·has 3 flags && not (Given·has 4 flags))) }
+fn takes_second(entry: &Entry, terms: &Terms) -> bool
+    ensures { result ≡ takes_second (given_by terms.now) 4 entry.now.bytes.now }
 {
-    if !container {
-        return false;
-    }
-    if !has(flags, 3) {
-        return false;
-    }
-    !has(flags, 4)
+    let flags = entry.flags();
+    terms.container && has(flags, 3) && !has(flags, 4)
 }
 
-// Whether a pass takes an entry, and the flags of its copy.
-#[derive(Clone, Copy)]
-pub struct Picked {
-    pub taken: bool,
-    pub flags: u8,
-}
-
-// What a pass does with the entry that `t` begins with.
-pub(crate) fn pick(pass: Pass, t: &[u8], look: Look, terms: Terms, types: [[u8; 16]; 4]) -> Picked
-    requires { (terms.count ≤ 4) × (look ≡ look_of t.now) }
-    ensures { ((owner group : List ℕ) → result.taken ≡ takes_by (given_by terms types owner group) pass t.now)
-        × (result.flags ≡ flags_by pass (flags_of t.now)) }
+// The flags of the copy, where a pass takes the entry. The passes are four and are all here: a closure for each would be no plainer.
+#[inline(always)]
+pub(crate) fn pick(pass: Pass, entry: &Entry, terms: &Terms) -> Option<u8>
+    ensures { result ≡ picked (given_by terms.now) pass entry.now.bytes.now }
 {
-    let flags = look.flags;
+    let flags = entry.flags();
     match pass {
-        Pass::First => Picked {
-            taken: takes_first(t, look, terms, types),
-            flags: 16,
-        },
-        Pass::Second => Picked {
-            taken: takes_second(terms.container, flags),
-            flags: flags | 24,
-        },
-        Pass::Own => Picked {
-            taken: !has(flags, 16),
-            flags,
-        },
-        Pass::All => Picked { taken: true, flags },
+        Pass::First => takes_first(entry, terms).then_some(16),
+        Pass::Second => takes_second(entry, terms).then_some(flags | 24),
+        Pass::Own => (!has(flags, 16)).then_some(flags),
+        Pass::All => Some(flags),
     }
 }

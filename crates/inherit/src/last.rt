@@ -3,22 +3,23 @@ ghost use Rattle.std.specs.Prelude.{◌≡◌, [], ◌∷◌, ◌++◌, ◌+◌,
 ghost use Rattle.octets.specs.Bytes.{front, spell};
 ghost use Rattle.list.specs.Identity.{placeholder_of};
 ghost use Rattle.list.specs.Entry.{entry_bytes};
-ghost use Rattle.inherit.specs.Last.{in_place, joined as Last·joined, mapped as Last·mapped, mends as Last·mends, last_mask};
+ghost use Rattle.inherit.specs.Last.{in_place, joined as Last·joined, mapped as Last·mapped, last_mask};
+ghost use Rattle.inherit.specs.Inner.Rules.{number_by};
 
 use crate::Mapping;
+use crate::rules::Rule;
+use crate::terms::Terms;
+use list::Placeholder;
 
 // The owner's bytes for creator owner, the group's for creator group, else the SID's own.
-pub(crate) fn in_place<'a>(sid: &'a [u8], owner: &'a [u8], group: &'a [u8]) -> &'a [u8]
-    ensures { result.now ≡ in_place (placeholder_of sid.now) sid.now owner.now group.now }
+pub(crate) fn in_place<'a>(sid: &'a [u8], terms: &Terms<'a>) -> &'a [u8]
+    ensures { result.now ≡ in_place (placeholder_of sid.now) sid.now terms.now.owner.now terms.now.group.now }
 {
-    let which = list::placeholder_of(sid);
-    if which == 1 {
-        return owner;
+    match list::placeholder_of(sid) {
+        Some(Placeholder::Owner) => terms.owner,
+        Some(Placeholder::Group) => terms.group,
+        None => sid,
     }
-    if which == 2 {
-        return group;
-    }
-    sid
 }
 
 // A mapping is joined where the mask as it came has the bit.
@@ -41,27 +42,19 @@ fn mapped(mapping: Mapping, mask: u32) -> u32
     joined(0x2000_0000, mask, write, mapping.execute)
 }
 
-// Whether the rule mends the printed text.
-fn mends(rule: u32) -> bool
-    ensures { result ≡ Last·mends rule }
-{
-    rule == 2
-}
-
 // The mask as the last step leaves it: the printed text's; or mended, with the fourth mapping joined, and then without the generic bits.
 // Where it has none of these bits it stays as it came.
-pub(crate) fn last_mask(rule: u32, mapping: Mapping, mask: u32) -> u32
-    ensures { result ≡ last_mask rule mapping mask }
+pub(crate) fn last_mask(rule: Rule, mapping: Mapping, mask: u32) -> u32
+    ensures { result ≡ last_mask (number_by rule) mapping mask }
 {
     if mask < 0x1000_0000 {
         return mask;
     }
     let three = mapped(mapping, mask);
     let four = joined(0x1000_0000, mask, three, mapping.all);
-    if mends(rule) {
-        four & 0x0FFF_FFFF
-    } else {
-        three
+    match rule {
+        Rule::Mended => four & 0x0FFF_FFFF,
+        Rule::Printed => three,
     }
 }
 
@@ -70,40 +63,35 @@ pub(crate) fn put_head(out: &mut [u8], kind: u8, flags: u8, size: usize, mask: u
     requires { 8 ≤ length out.old }
     ensures { out.new ≡ front ((kind ∷ flags ∷ []) ++ (spell 2 size ++ spell 4 mask)) out.old }
 {
-    let size1 = size / 256;
-    let mask1 = mask / 256;
-    let mask2 = mask1 / 256;
-    let mask3 = mask2 / 256;
     out[0] = kind;
     out[1] = flags;
-    out[2] = (size % 256) as u8;
-    out[3] = (size1 % 256) as u8;
-    out[4] = (mask % 256) as u8;
-    out[5] = (mask1 % 256) as u8;
-    out[6] = (mask2 % 256) as u8;
-    out[7] = (mask3 % 256) as u8;
+    out[2..4].copy_from_slice(&size.to_le_bytes()[..2]);
+    out[4..8].copy_from_slice(&mask.to_le_bytes());
 }
 
-// An entry made of its parts, on the front of what is left of the result.
-pub(crate) fn put_entry(
-    out: &mut [u8],
-    kind: u8,
-    flags: u8,
-    mask: u32,
-    middle: &[u8],
-    sid: &[u8],
-    tail: &[u8],
-) -> usize
-    requires { 8 + (length middle.now + (length sid.now + length tail.now)) ≤ length out.old }
-    ensures { (result ≡ 8 + (length middle.now + (length sid.now + length tail.now)))
-        × (out.new ≡ front (entry_bytes (record { kind = kind; flags = flags; mask = mask; middle = middle.now; sid = sid.now; tail = tail.now })) out.old) }
+// An entry in its parts.
+#[derive(Clone, Copy)]
+pub struct Parted<'a> {
+    pub kind: u8,
+    pub flags: u8,
+    pub mask: u32,
+    pub middle: &'a [u8],
+    pub sid: &'a [u8],
+    pub tail: &'a [u8],
+}
+
+// The entry that they make, on the front of what is left of the result.
+pub(crate) fn put_entry(out: &mut [u8], p: &Parted) -> usize
+    requires { 8 + (length p.now.middle.now + (length p.now.sid.now + length p.now.tail.now)) ≤ length out.old }
+    ensures { (result ≡ 8 + (length p.now.middle.now + (length p.now.sid.now + length p.now.tail.now)))
+        × (out.new ≡ front (entry_bytes (record { kind = p.now.kind; flags = p.now.flags; mask = p.now.mask; middle = p.now.middle.now; sid = p.now.sid.now; tail = p.now.tail.now })) out.old) }
 {
-    let sid_at = 8 + middle.len();
-    let tail_at = sid_at + sid.len();
-    let size = tail_at + tail.len();
-    put_head(out, kind, flags, size, mask);
-    octets::put(&mut out[8..], middle);
-    octets::put(&mut out[sid_at..], sid);
-    octets::put(&mut out[tail_at..], tail);
+    let sid_at = 8 + p.middle.len();
+    let tail_at = sid_at + p.sid.len();
+    let size = tail_at + p.tail.len();
+    put_head(out, p.kind, p.flags, size, p.mask);
+    octets::put(&mut out[8..], p.middle);
+    octets::put(&mut out[sid_at..], p.sid);
+    octets::put(&mut out[tail_at..], p.tail);
     size
 }

@@ -1,32 +1,38 @@
 // The computation of a new object's list.
 #![tactic(auto)]
 
-ghost use Rattle.std.specs.Prelude.{◌≡◌, cond, length};
-ghost use Rattle.list.specs.Entry.{access};
-ghost use Rattle.inherit.specs.Branch.{result_of};
+ghost use Rattle.std.specs.Prelude.{◌≡◌, [], cond};
+ghost use Rattle.std.specs.Option.{is_some};
+ghost use Rattle.inherit.specs.Copies.{any_heritable};
 ghost use Rattle.inherit.specs.Compute.{asked_by, Answers};
+ghost use Rattle.inherit.specs.Asked.{lent_list};
+ghost use Rattle.inherit.specs.Inner.Still.{still, held};
+ghost use Rattle.inherit.specs.Inner.Rules.{number_by};
+ghost use Rattle.inherit.specs.Inner.Emit.{given_by};
+ghost use Rattle.inherit.specs.Inner.Plan.{plan_of, planned, result_by};
 ghost use Rattle.inherit.specs.Inner.Ending.{Ends};
-ghost use Rattle.inherit.specs.Inner.Source.{Tested};
 
 use branch::{any_heritable, plan_for};
-use copies::Terms;
-use list::Sid;
-use tests::{Source, four_of, ordinary, rule_ok, source_of, types_ok};
-use whole::{Part, Parts, fill};
+use entries::Entries;
+use refusal::{Fault, Refusal};
+use rules::Rule;
+use terms::Terms;
+use tests::{four_of, ordinary, source_of, types_ok};
+use whole::{Parts, fill};
 
 mod branch;
 mod copies;
+mod entries;
 mod last;
 mod passes;
+mod rules;
+mod terms;
 mod tests;
 mod whole;
 
-// Yes or no: whether each list is present, and the settings.
+// Yes or no: whether the object is a container, and the three settings.
 #[derive(Clone, Copy)]
 pub struct Settings {
-    pub parent: bool,
-    pub creator: bool,
-    pub default: bool,
     pub container: bool,
     pub auto: bool,
     pub defaulted: bool,
@@ -42,159 +48,98 @@ pub struct Mapping {
     pub all: u32,
 }
 
-// The answer: a list on the front of the result, no list, or a refusal.
-#[derive(Clone, Copy)]
-pub enum Computed {
-    Present {
-        length: u16,
-        count: u16,
-        control: u16,
-    },
-    Absent,
-    Refused {
-        number: u8,
-        list: u8,
-        offset: u16,
-    },
+// A list on the front of the result: its length, how many entries it has, and its control bits.
+#[derive(Clone, Copy, Debug, PartialEq, Eq)]
+pub struct Computed {
+    pub length: u16,
+    pub count: u16,
+    pub control: u16,
 }
 
-// A list's entries, or none of them where it gives nothing.
-fn part_of(gives: bool, s: Source) -> Part
-    ensures { result ≡ record { rev = s.rev; count = cond gives s.count 0 } }
+// A list's entries, or none of them where it is absent or gives nothing.
+fn part_of<'a>(gives: bool, list: Option<Entries<'a>>) -> Entries<'a>
+    ensures { still result ≡ cond gives (held list.entry) [] }
 {
-    if gives {
-        return Part {
-            rev: s.rev,
-            count: s.count,
-        };
+    match list {
+        Some(entries) if gives => entries,
+        _ => Entries {
+            bytes: &[],
+            left: 0,
+        },
     }
-    Part {
-        rev: s.rev,
-        count: 0,
-    }
+}
+
+// The three lists, each as its entries where it is present.
+#[derive(Clone, Copy)]
+struct Lists<'a> {
+    own: Option<Entries<'a>>,
+    parent: Option<Entries<'a>>,
+    default: Option<Entries<'a>>,
 }
 
 // The computation, once everything was tested but the room.
-fn run<'a>(
+fn run(
+    settings: Settings,
+    lists: Lists,
+    terms: &Terms,
+    out: &mut [u8],
+) -> Result<Option<Computed>, Fault>
+    ensures { let parent = held lists.entry.parent in
+        let plan = plan_of (number_by terms.now.rule) settings (any_heritable parent) (is_some lists.entry.own) (is_some lists.entry.default) in
+        Ends (result_by plan (planned (given_by terms.now) plan parent (held lists.entry.own) (held lists.entry.default))) out.old result out.new }
+{
+    let heritable = any_heritable(part_of(true, lists.parent));
+    let creator = lists.own.is_some();
+    let default = lists.default.is_some();
+    let Some(plan) = plan_for(terms.rule, settings, heritable, creator, default) else {
+        return Ok(None);
+    };
+    let parts = Parts {
+        own: part_of(plan.own, lists.own),
+        parent: part_of(plan.parent, lists.parent),
+        default: part_of(plan.default, lists.default),
+    };
+    fill(out, plan.control, parts, terms)
+}
+
+// The list of a new object, on the front of the result; `None` is no list. Its parameters are C's call's; of the rule any number may come in.
+pub fn compute(
     rule: u32,
     settings: Settings,
     mapping: Mapping,
-    p: Source,
-    c: Source,
-    d: Source,
-    parent: &'a [u8],
-    creator: &'a [u8],
-    default: &'a [u8],
+    parent: Option<&[u8]>,
+    creator: Option<&[u8]>,
+    default: Option<&[u8]>,
     types: &[u8],
     owner: &[u8],
     group: &[u8],
     out: &mut [u8],
-) -> Computed
-    requires { Tested settings p c d parent.now creator.now default.now types.now owner.now group.now }
-    ensures { Ends (result_of access (asked_by rule settings mapping parent.now creator.now default.now types.now owner.now group.now)) out.old result out.new }
+) -> Result<Option<Computed>, Fault>
+    ensures { Answers (asked_by rule settings mapping (lent_list parent.entry) (lent_list creator.entry) (lent_list default.entry) types.now owner.now group.now) out.old result out.new }
 {
+    let rule = Rule::try_from(rule)?;
+    let inherited = source_of(parent, 1)?;
+    let own = source_of(creator, 2)?;
+    let all = source_of(default, 3)?;
+    if !ordinary(owner) || !ordinary(group) {
+        return Err(Fault::from(Refusal::Identity));
+    }
+    if !types_ok(types) {
+        return Err(Fault::from(Refusal::Types));
+    }
+    let four = four_of(types);
     let terms = Terms {
         rule,
         container: settings.container,
         mapping,
-        count: types.len() / 16,
+        types: &four[..types.len() / 16],
+        owner,
+        group,
     };
-    let plan = plan_for(rule, settings, any_heritable(parent, p.rev, p.count));
-    let parts = Parts {
-        own: part_of(plan.own, c),
-        parent: part_of(plan.parent, p),
-        default: part_of(plan.default, d),
+    let lists = Lists {
+        own,
+        parent: inherited,
+        default: all,
     };
-    let owner_made = Sid::from_bytes(owner);
-    let owner_sid = owner_made.sid;
-    let owner_bytes = owner_sid.bytes;
-    let owner_len = owner_sid.len;
-    let group_made = Sid::from_bytes(group);
-    let group_sid = group_made.sid;
-    let group_bytes = group_sid.bytes;
-    let group_len = group_sid.len;
-    fill(
-        out,
-        plan,
-        parts,
-        parent,
-        creator,
-        default,
-        terms,
-        four_of(types),
-        &owner_bytes[..owner_len],
-        &group_bytes[..group_len],
-    )
-}
-
-// The list of a new object, on the front of the result.
-pub fn compute<'a>(
-    rule: u32,
-    settings: Settings,
-    mapping: Mapping,
-    parent: &'a [u8],
-    creator: &'a [u8],
-    default: &'a [u8],
-    types: &[u8],
-    owner: &[u8],
-    group: &[u8],
-    out: &mut [u8],
-) -> Computed
-    ensures { Answers (asked_by rule settings mapping parent.now creator.now default.now types.now owner.now group.now) out.old result out.new }
-{
-    if !rule_ok(rule) {
-        return Computed::Refused {
-            number: 12,
-            list: 0,
-            offset: 0,
-        };
-    }
-    let p = source_of(settings.parent, parent);
-    if p.number != 0 {
-        return Computed::Refused {
-            number: p.number,
-            list: 1,
-            offset: p.offset,
-        };
-    }
-    let c = source_of(settings.creator, creator);
-    if c.number != 0 {
-        return Computed::Refused {
-            number: c.number,
-            list: 2,
-            offset: c.offset,
-        };
-    }
-    let d = source_of(settings.default, default);
-    if d.number != 0 {
-        return Computed::Refused {
-            number: d.number,
-            list: 3,
-            offset: d.offset,
-        };
-    }
-    if !ordinary(owner) {
-        return Computed::Refused {
-            number: 6,
-            list: 0,
-            offset: 0,
-        };
-    }
-    if !ordinary(group) {
-        return Computed::Refused {
-            number: 6,
-            list: 0,
-            offset: 0,
-        };
-    }
-    if !types_ok(types) {
-        return Computed::Refused {
-            number: 7,
-            list: 0,
-            offset: 0,
-        };
-    }
-    run(
-        rule, settings, mapping, p, c, d, parent, creator, default, types, owner, group, out,
-    )
+    run(settings, lists, &terms, out)
 }

@@ -1,66 +1,25 @@
 // The tests of what is handed in.
 ghost use Rattle.std.specs.Prelude.{◌≡◌, ◌≤◌, ◌<◌, length};
-ghost use Rattle.list.specs.List.{rev_of, lent};
-ghost use Rattle.inherit.specs.Asked.{types_ok, four_of};
-ghost use Rattle.inherit.specs.Compute.{rule_ok, ordinary as Compute·ordinary};
-ghost use Rattle.inherit.specs.Inner.Source.{source_of};
+ghost use Rattle.inherit.specs.Asked.{lent_list, types_ok, four_of};
+ghost use Rattle.inherit.specs.Compute.{ordinary as Compute·ordinary};
+ghost use Rattle.inherit.specs.Inner.Source.{Sources};
 
-use list::Reading;
+use crate::entries::Entries;
+use refusal::Fault;
 
-// A list that may be absent: the number and offset of its refusal, or 0 and how its entries are read.
-#[derive(Clone, Copy)]
-pub struct Source {
-    pub number: u8,
-    pub offset: u16,
-    pub rev: u8,
-    pub count: usize,
-}
-
-pub(crate) fn rule_ok(rule: u32) -> bool
-    ensures { result ≡ rule_ok rule }
+// The entries of a list that may be absent; a refusal concerns list `which`.
+pub(crate) fn source_of<'a>(list: Option<&'a [u8]>, which: u8) -> Result<Option<Entries<'a>>, Fault>
+    ensures { Sources (lent_list list.entry) which result }
 {
-    if rule == 1 {
-        return true;
-    }
-    rule == 2
-}
-
-// A good list of `count` entries.
-fn read_source(list: &[u8], count: u16) -> Source
-    requires { 0 < length list.now }
-    ensures { (result ≡ record { number = 0; offset = 0; rev = rev_of list.now; count = count }) × (result.count ≤ 65535) }
-{
-    Source {
-        number: 0,
-        offset: 0,
-        rev: list[0],
-        count: count as usize,
-    }
-}
-
-pub(crate) fn source_of(given: bool, list: &[u8]) -> Source
-    ensures { (result ≡ source_of (lent given list.now)) × (result.count ≤ 65535) }
-{
-    if !given {
-        return Source {
-            number: 0,
-            offset: 0,
-            rev: 0,
-            count: 0,
-        };
-    }
+    let Some(list) = list else {
+        return Ok(None);
+    };
     match list::check(list) {
-        Reading::Refused { number, at } => Source {
-            number,
-            offset: at,
-            rev: 0,
-            count: 0,
-        },
-        Reading::Done {
-            length: _,
-            count,
-            end: _,
-        } => read_source(list, count),
+        Ok(read) => Ok(Some(Entries {
+            bytes: &list[8..],
+            left: read.count,
+        })),
+        Err(fault) => Err(fault.in_list(which)),
     }
 }
 
@@ -68,20 +27,17 @@ pub(crate) fn source_of(given: bool, list: &[u8]) -> Source
 pub(crate) fn ordinary(b: &[u8]) -> bool
     ensures { result ≡ Compute·ordinary b.now }
 {
-    list::identity(b) == 0
+    list::identity(b) == Ok(None)
 }
 
 // Object types in their bytes: a multiple of 16, at most 64.
 pub(crate) fn types_ok(b: &[u8]) -> bool
     ensures { result ≡ types_ok b.now }
 {
-    if 64 < b.len() {
-        return false;
-    }
-    b.len() % 16 == 0
+    b.len() <= 64 && b.len() % 16 == 0
 }
 
-// The first four GUIDs.
+// The first four GUIDs; std's `as_chunks` gives a rest too, which would have to be shown empty, so it is no plainer.
 pub(crate) fn four_of(b: &[u8]) -> [[u8; 16]; 4]
     ensures { result ≡ four_of b.now }
 {

@@ -3,170 +3,55 @@ ghost use Rattle.std.specs.Prelude.{◌≡◌, cond, ◌+◌, ◌≤◌, length}
 ghost use mathlib.Core.List.{flatten};
 ghost use Rattle.octets.specs.Bytes.{front};
 ghost use Rattle.list.specs.List.{head_bytes};
-ghost use Rattle.inherit.specs.Inner.Emit.{given_by, emitted, measure_of};
-ghost use Rattle.inherit.specs.Inner.Plan.{gathered, onward, result_by, Good, Ready};
+ghost use Rattle.inherit.specs.Branch.{holds};
+ghost use Rattle.inherit.specs.Inner.Still.{still};
+ghost use Rattle.inherit.specs.Inner.Emit.{given_by, emit_all, measure_of};
+ghost use Rattle.inherit.specs.Inner.Plan.{gathered, onward};
 ghost use Rattle.inherit.specs.Inner.Ending.{Ends};
 
 use crate::Computed;
-use crate::branch::Plan;
-use crate::copies::{Origin, Pass, Terms};
+use crate::copies::{Origin, Pass};
+use crate::entries::Entries;
 use crate::passes::{Measure, both, measure_pass, write_pass};
+use crate::terms::Terms;
+use refusal::{Fault, Refusal};
 
-// How many entries of a list are gone over, and its revision.
+// Which entries are gone over: none of a list's where it gives nothing.
 #[derive(Clone, Copy)]
-pub struct Part {
-    pub rev: u8,
-    pub count: usize,
-}
-
-#[derive(Clone, Copy)]
-pub struct Parts {
-    pub own: Part,
-    pub parent: Part,
-    pub default: Part,
+pub struct Parts<'a> {
+    pub own: Entries<'a>,
+    pub parent: Entries<'a>,
+    pub default: Entries<'a>,
 }
 
 // The length of the result is known before its first byte is written.
-pub(crate) fn measure_all<'a>(
-    parts: Parts,
-    parent: &'a [u8],
-    creator: &'a [u8],
-    default: &'a [u8],
-    terms: Terms,
-    types: [[u8; 16]; 4],
-    owner: &'a [u8],
-    group: &'a [u8],
-) -> Measure
-    requires ready { Ready parts parent.now creator.now default.now }
-    requires count_bound { (terms.count ≤ 4) × (length owner.now ≤ 68) × (length group.now ≤ 68) }
-    ensures { (result ≡ measure_of (gathered (given_by terms types owner.now group.now) parts parent.now creator.now default.now)) × (result.bytes ≤ 25795755630) }
+pub(crate) fn measure_all(parts: Parts, terms: &Terms) -> Measure
+    ensures { (result ≡ measure_of (gathered (given_by terms.now) parts.entry)) × (result.bytes ≤ 25795755630) }
 {
-    let o = parts.own;
-    let p = parts.parent;
-    let d = parts.default;
-    let own = measure_pass(
-        creator,
-        o.rev,
-        o.count,
-        Origin::Own,
-        terms,
-        types,
-        owner,
-        group,
-    );
-    let inherited = measure_pass(
-        parent,
-        p.rev,
-        p.count,
-        Origin::Parent,
-        terms,
-        types,
-        owner,
-        group,
-    );
-    let all = measure_pass(
-        default,
-        d.rev,
-        d.count,
-        Origin::Default,
-        terms,
-        types,
-        owner,
-        group,
-    );
+    let own = measure_pass(parts.own, Origin::Own, terms);
+    let inherited = measure_pass(parts.parent, Origin::Parent, terms);
+    let all = measure_pass(parts.default, Origin::Default, terms);
     both(own, both(inherited, all))
 }
 
 // A pass that writes from `at` on, straight into what is left of the result: where its entries end.
-fn write_next<'a>(
-    out: &mut [u8],
-    at: usize,
-    list: &'a [u8],
-    part: Part,
-    pass: Pass,
-    terms: Terms,
-    types: [[u8; 16]; 4],
-    owner: &'a [u8],
-    group: &'a [u8],
-) -> usize
-    requires good { Good part list.now × (terms.count ≤ 4) }
-    requires list_in_bounds { at + length (flatten (emitted (given_by terms types owner.now group.now) pass part.count list.now)) ≤ length out.old }
-    ensures { (result ≡ at + length (flatten (emitted (given_by terms types owner.now group.now) pass part.count list.now)))
-        × (out.new ≡ onward at (flatten (emitted (given_by terms types owner.now group.now) pass part.count list.now)) out.old) }
+fn write_next(out: &mut [u8], at: usize, entries: Entries, pass: Pass, terms: &Terms) -> usize
+    requires { at + length (flatten (emit_all (given_by terms.now) pass (still entries))) ≤ length out.old }
+    ensures { (result ≡ at + length (flatten (emit_all (given_by terms.now) pass (still entries.entry))))
+        × (out.new ≡ onward at (flatten (emit_all (given_by terms.now) pass (still entries.entry))) out.old) }
 {
-    at + write_pass(
-        &mut out[at..],
-        list,
-        part.rev,
-        part.count,
-        pass,
-        terms,
-        types,
-        owner,
-        group,
-    )
+    at + write_pass(&mut out[at..], entries, pass, terms)
 }
 
 // All entries, each straight into what is left of the result.
-pub(crate) fn write_all<'a>(
-    out: &mut [u8],
-    parts: Parts,
-    parent: &'a [u8],
-    creator: &'a [u8],
-    default: &'a [u8],
-    terms: Terms,
-    types: [[u8; 16]; 4],
-    owner: &'a [u8],
-    group: &'a [u8],
-)
-    requires ready { Ready parts parent.now creator.now default.now × (terms.count ≤ 4) }
-    requires default_in_bounds { length (flatten (gathered (given_by terms types owner.now group.now) parts parent.now creator.now default.now)) ≤ length out.old }
-    ensures { out.new ≡ front (flatten (gathered (given_by terms types owner.now group.now) parts parent.now creator.now default.now)) out.old }
+pub(crate) fn write_all(out: &mut [u8], parts: Parts, terms: &Terms)
+    requires { length (flatten (gathered (given_by terms.now) parts)) ≤ length out.old }
+    ensures { out.new ≡ front (flatten (gathered (given_by terms.now) parts.entry)) out.old }
 {
-    let own = write_next(
-        out,
-        0,
-        creator,
-        parts.own,
-        Pass::Own,
-        terms,
-        types,
-        owner,
-        group,
-    );
-    let first = write_next(
-        out,
-        own,
-        parent,
-        parts.parent,
-        Pass::First,
-        terms,
-        types,
-        owner,
-        group,
-    );
-    let second = write_next(
-        out,
-        first,
-        parent,
-        parts.parent,
-        Pass::Second,
-        terms,
-        types,
-        owner,
-        group,
-    );
-    write_next(
-        out,
-        second,
-        default,
-        parts.default,
-        Pass::All,
-        terms,
-        types,
-        owner,
-        group,
-    );
+    let own = write_next(out, 0, parts.own, Pass::Own, terms);
+    let first = write_next(out, own, parts.parent, Pass::First, terms);
+    let second = write_next(out, first, parts.parent, Pass::Second, terms);
+    write_next(out, second, parts.default, Pass::All, terms);
 }
 
 // Revision 4 if an object entry is among the entries, else 2.
@@ -180,70 +65,33 @@ fn put_header(out: &mut [u8], rev: u8, size: usize, count: usize)
     requires { 8 ≤ length out.old }
     ensures { out.new ≡ front (head_bytes rev size count) out.old }
 {
-    let size1 = size / 256;
-    let count1 = count / 256;
     out[0] = rev;
     out[1] = 0;
-    out[2] = (size % 256) as u8;
-    out[3] = (size1 % 256) as u8;
-    out[4] = (count % 256) as u8;
-    out[5] = (count1 % 256) as u8;
-    out[6] = 0;
-    out[7] = 0;
+    out[2..4].copy_from_slice(&size.to_le_bytes()[..2]);
+    out[4..6].copy_from_slice(&count.to_le_bytes()[..2]);
+    out[6..8].copy_from_slice(&[0, 0]);
 }
 
-// What the plan gives, if there is room for it.
-pub(crate) fn fill<'a>(
+// What the passes give, if there is room for it.
+pub(crate) fn fill(
     out: &mut [u8],
-    plan: Plan,
+    control: u16,
     parts: Parts,
-    parent: &'a [u8],
-    creator: &'a [u8],
-    default: &'a [u8],
-    terms: Terms,
-    types: [[u8; 16]; 4],
-    owner: &'a [u8],
-    group: &'a [u8],
-) -> Computed
-    requires ready { Ready parts parent.now creator.now default.now }
-    requires count_bound { (terms.count ≤ 4) × (length owner.now ≤ 68) × (length group.now ≤ 68) }
-    ensures { Ends (result_by plan (gathered (given_by terms types owner.now group.now) parts parent.now creator.now default.now)) out.old result out.new }
+    terms: &Terms,
+) -> Result<Option<Computed>, Fault>
+    ensures { Ends (holds (gathered (given_by terms.now) parts.entry) control) out.old result out.new }
 {
-    if plan.absent {
-        return Computed::Absent;
-    }
-    let m = measure_all(parts, parent, creator, default, terms, types, owner, group);
+    let m = measure_all(parts, terms);
     let size = 8 + m.bytes;
-    if out.len() < size {
-        return Computed::Refused {
-            number: 8,
-            list: 0,
-            offset: 0,
-        };
-    }
-    if 65532 < size {
-        return Computed::Refused {
-            number: 8,
-            list: 0,
-            offset: 0,
-        };
+    if out.len() < size || 65532 < size {
+        return Err(Fault::from(Refusal::Room));
     }
     let count = m.count;
     put_header(out, rev_for(m.object), size, count);
-    write_all(
-        &mut out[8..],
-        parts,
-        parent,
-        creator,
-        default,
-        terms,
-        types,
-        owner,
-        group,
-    );
-    Computed::Present {
+    write_all(&mut out[8..], parts, terms);
+    Ok(Some(Computed {
         length: size as u16,
         count: count as u16,
-        control: plan.control,
-    }
+        control,
+    }))
 }

@@ -6,7 +6,10 @@ use mathlib.Core.Option.{none, some, bind}
 use Prim.Native.Nat.{ℕ}
 use lib.ListN.{take, drop, replicate}
 use Rattle.octets.specs.Bytes.{le, spell, same_bytes}
-use Rattle.list.specs.Identity.{length_of_sid, whole_sid, is_sid, placeholder_of, identity_of, bytes_of, placeholder_sid, made_of}
+use Rattle.list.specs.Identity.{length_of_sid, whole_sid, is_sid, placeholder_of, placeholder_in, identity_of, identity_in, bytes_of, placeholder_sid, made_of}
+use Rattle.list.specs.declared.identities.Placeholder.TheVariants.{Owner, Group}
+use Rattle.std.specs.Prelude.{Some, None, Ok, Err}
+use Rattle.refusal.specs.declared.Refusal.TheVariants.{Identity}
 use Rattle.octets.specs.Order.{need}
 use Rattle.condition.specs.Token.{name_ok, one_to_three, literal_at, name_at, comparison_of, operator_of, token_at, long, long_all, over, tokens_in}
 use Rattle.condition.specs.Kind.{operand_kind, is_operand, is_named, is_condition, taking, kinds_after, kinds_from, one_left, marked, zeros, acceptable, accepted_of, end_by, up_to_four}
@@ -191,10 +194,17 @@ pub identities-worked :
 unfolding identity_of is_sid placeholder_of length_of_sid same_bytes
 identities-worked = refl
 
--- as values: the bytes, zeros up to 68, the length; refused, with nothing in it
+-- and what is answered: none of the two, the one, the other, or a refusal
+pub answers-worked :
+    map (λ s. identity_in (identity_of s)) (system ∷ creators 0 ∷ creators 1 ∷ creators 2 ∷ (creators 0 ++ (0 ∷ [])) ∷ [] ∷ [])
+    ≡ Ok None ∷ Ok (Some Owner) ∷ Ok (Some Group) ∷ Ok None ∷ Err Identity ∷ Err Identity ∷ []
+unfolding identity_in placeholder_in identity_of is_sid placeholder_of length_of_sid same_bytes
+answers-worked = refl
+
+-- as values: the bytes, zeros up to 68, the length; refused
 pub made-worked :
-    (made_of system ≡ record { ok = true; sid = record { bytes = system ++ replicate 56 0; len = 12 } })
-    × ((made_of [] ≡ record { ok = false; sid = record { bytes = replicate 68 0; len = 0 } })
+    (made_of system ≡ Some (record { bytes = system ++ replicate 56 0; len = 12 }))
+    × ((made_of [] ≡ None)
     × ((placeholder_sid 0 ≡ record { bytes = creators 0 ++ replicate 56 0; len = 12 })
     × ((placeholder_sid 1 ≡ record { bytes = creators 1 ++ replicate 56 0; len = 12 })
     × (bytes_of (placeholder_sid 1) ≡ creators 1))))

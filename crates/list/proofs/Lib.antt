@@ -1,3 +1,4 @@
+pub mod Found
 pub mod Sids
 pub mod Padding
 pub mod Cases

@@ -9,10 +9,9 @@ use lib.ListN.{length, take, drop, get_or, length-append, length-drop, take-appe
 use lib.Seq.{drop-cons, drop-drop, drop_at, take_at, length-take-le}
 use Rattle.octets.specs.Bytes.{le, spell}
 use Rattle.list.specs.Entry.{Family, entry_of, size_of, kind_of, fields_of}
-use Rattle.list.specs.List.{cut, entries_end, entries_of, offsets, head_bytes, render, rev_ok, rev_of, count_of, check_of}
+use Rattle.list.specs.List.{cut, entries_end, entries_of, offsets, head_bytes, render, rev_ok, rev_of, count_of, read_as, check_of}
 use Rattle.list.specs.Good.{Whole, Passes, Header, Listed, Every}
-use Rattle.list.specs.declared.entries.Checked.TheVariants.{Good}
-use Rattle.list.specs.declared.lists.Reading.TheVariants.{Done}
+use Rattle.std.specs.Prelude.{Ok}
 use Rattle.octets.proofs.Little.{le-append, le-spell, length-spell}
 use Rattle.list.proofs.Cases.{is-good}
 use Rattle.list.proofs.Told.{reads}
@@ -127,7 +126,7 @@ pub record Kth (f : Family) (s : List ℕ) (o : ℕ) (e : List ℕ) : Type 0 whe
   pub rest : List ℕ
   pub here : drop o s ≡ e ++ rest
   pub inside : o + length e ≤ length s
-  pub found : entry_of f (rev_of s) (drop o s) ≡ Good (fields_of e)
+  pub found : entry_of f (rev_of s) (drop o s) ≡ Ok (fields_of e)
 
 pub kth : (f : Family) (s : List ℕ) (n k : ℕ) → Listed f s n → k < n → Kth f s (get_or (offsets n 8 (drop 8 s)) k 0) (get_or (entries_of s) k [])
 unfolding entries_of flatten
@@ -144,7 +143,7 @@ kth f s n k r p =
       rest = u;
       here = q;
       inside = omega (arith, ap length q, length-drop o s, length-append (get_or es k []) u, w.sound.four);
-      found = rw q (sym (is-good f (rev_of s) _ (join f (rev_of s) _ u w)) ∙ ap Good (fields-same (joined f (rev_of s) _ u w)));
+      found = rw q (sym (is-good f (rev_of s) _ (join f (rev_of s) _ u w)) ∙ ap Ok (fields-same (joined f (rev_of s) _ u w)));
     }
 
 -- entries are 16 bytes long at the least, so their number fits where their bytes do
@@ -157,7 +156,7 @@ fewer f rev (e ∷ es) ws =
 -- a header with whole entries behind it is a list of them, reads as done, ends with them, and has them for its entries
 pub record Rendered (f : Family) (rev : ℕ) (es : List (List ℕ)) : Type 0 where
   pub listed : Listed f (render rev es) (length es)
-  pub done : check_of f (render rev es) ≡ Done (8 + length (flatten es)) (length es) (8 + length (flatten es))
+  pub done : check_of f (render rev es) ≡ read_as (8 + length (flatten es)) (length es) (8 + length (flatten es))
   pub entries : entries_of (render rev es) ≡ es
 
 pub length-head : (rev size count : ℕ) → length (head_bytes rev size count) ≡ 8

@@ -1,16 +1,21 @@
 -- Laws of identities.
 use mathlib.Core.Path.{◌≡◌, refl, sym, ap, ◌∙◌}
 use mathlib.Core.Bool.{Bool, true, false, cond, ◌&&◌}
-use mathlib.Core.List.{List, ◌++◌}
-use Prim.Native.Nat.{ℕ, ◌+◌, ◌*◌, ◌≤◌, ◌<◌}
+use mathlib.Core.List.{List, [], ◌∷◌, ◌++◌}
+use Prim.Native.Nat.{ℕ, zero, suc, ◌+◌, ◌*◌, ◌≤◌, ◌<◌}
 use native.Mathlib.Omega.{arith}
 use native.Mathlib.Decide.{ℕ_discrete}
 use lib.ListN.{length, take, drop, replicate, get_or, length-append, length-take, take-append-drop, get_or-append}
 use lib.Seq.{take_at, length-take-le}
 use lib.Dec.{eqb, leb, ltb}
 use borrow.Author.Tests.{eq-eqb, ne_eqb, lt-ltb, le-leb, lt-leb, eqb-true, leb-true, ltb-true}
-use Rattle.list.specs.Identity.{length_of_sid, whole_sid, is_sid, creator, placeholder_of, identity_of, bytes_of, made_of}
-use Rattle.list.specs.declared.identities.Made.{Made}
+use Rattle.list.specs.Identity.{length_of_sid, whole_sid, is_sid, creator, placeholder_of, placeholder_in, placeholder_number, identity_of, identity_in, identity_number, bytes_of, made_of}
+use Rattle.list.specs.declared.identities.Sid.{Sid}
+use Rattle.list.specs.declared.identities.Placeholder.TheVariants.{Owner, Group}
+use Rattle.std.specs.Prelude.{Some, None, IsSomeAnd, Ok}
+use Rattle.std.specs.Option.{option_eq}
+use Rattle.octets.specs.Absent.{unless_zero}
+use Rattle.octets.specs.Bytes.{same_bytes}
 use Rattle.octets.proofs.Tests.{both_true}
 use Rattle.octets.proofs.Same.{same-no, same_length}
 use Rattle.octets.proofs.Writes.{length_front}
@@ -32,6 +37,12 @@ sid-cases s P none some = by (eqb (get_or s 0 0) 1 && leb (get_or s 1 0) 15) ref
 
 pub sid-length : (s : List ℕ) → 0 < length_of_sid s → SidLength (length_of_sid s)
 sid-length s = sid-cases s (λ (n : ℕ). 0 < n → SidLength n) (λ h. absurd (omega arith)) (λ n h p. record { least = omega arith; most = omega arith })
+
+-- none begins where nothing is
+pub sid-some : (s : List ℕ) → 0 < length_of_sid s → 0 < length s
+unfolding length_of_sid
+sid-some [] h = absurd (omega arith)
+sid-some (b ∷ s) h = omega arith
 
 pub sid-most : (s : List ℕ) → length_of_sid s ≤ 68
 sid-most s = sid-cases s (λ (n : ℕ). n ≤ 68) (omega arith) (λ n h. omega arith)
@@ -91,6 +102,59 @@ whole_says s h =
     (λ l. let e = whole-there s l in e ∙ number-says s (omega (arith, e)))
     (λ l. absurd (omega (arith, whole-cut s l)))
 
+-- what the number of a placeholder tells, and back
+pub neither-in : (s : List ℕ) → placeholder_in (placeholder_of s) ≡ None → placeholder_of s ≡ 0
+unfolding placeholder_in placeholder_of
+neither-in s h = by (same_bytes s (creator 0)) (same_bytes s (creator 1)) h
+  where
+    by : (a b : Bool) → placeholder_in (cond a 1 (cond b 2 0)) ≡ None → ◌≡◌ {A = ℕ} (cond a 1 (cond b 2 0)) 0
+    by true b h = cc
+    by false true h = cc
+    by false false h = refl
+
+pub owner-in : (s : List ℕ) → placeholder_in (placeholder_of s) ≡ Some Owner → placeholder_of s ≡ 1
+unfolding placeholder_in placeholder_of
+owner-in s h = by (same_bytes s (creator 0)) (same_bytes s (creator 1)) h
+  where
+    by : (a b : Bool) → placeholder_in (cond a 1 (cond b 2 0)) ≡ Some Owner → ◌≡◌ {A = ℕ} (cond a 1 (cond b 2 0)) 1
+    by true b h = refl
+    by false true h = cc
+    by false false h = cc
+
+pub group-in : (s : List ℕ) → placeholder_in (placeholder_of s) ≡ Some Group → placeholder_of s ≡ 2
+unfolding placeholder_in placeholder_of
+group-in s h = by (same_bytes s (creator 0)) (same_bytes s (creator 1)) h
+  where
+    by : (a b : Bool) → placeholder_in (cond a 1 (cond b 2 0)) ≡ Some Group → ◌≡◌ {A = ℕ} (cond a 1 (cond b 2 0)) 2
+    by true b h = cc
+    by false true h = refl
+    by false false h = cc
+
+pub in-neither : (n : ℕ) → n ≡ 0 → placeholder_in n ≡ None
+unfolding placeholder_in
+in-neither n e = rw e refl
+
+pub in-identity : (s : List ℕ) → identity_in (placeholder_of s) ≡ Ok (placeholder_in (placeholder_of s))
+unfolding identity_in placeholder_of
+in-identity s = by (same_bytes s (creator 0)) (same_bytes s (creator 1))
+  where
+    by : (a b : Bool) → identity_in (cond a 1 (cond b 2 0)) ≡ Ok (placeholder_in (cond a 1 (cond b 2 0)))
+    by true b = refl
+    by false true = refl
+    by false false = refl
+
+-- of an identity: the answer's number is the definition's
+identity-cases : (a b c : Bool) → identity_number (identity_in (cond a (cond b 1 (cond c 2 0)) 6)) ≡ cond a (cond b 1 (cond c 2 0)) 6
+unfolding identity_in placeholder_in
+identity-cases true true c = refl
+identity-cases true false true = refl
+identity-cases true false false = refl
+identity-cases false b c = refl
+
+pub identity-number : (s : List ℕ) → identity_number (identity_in (identity_of s)) ≡ identity_of s
+unfolding identity_of placeholder_of
+identity-number s = identity-cases (is_sid s) (same_bytes s (creator 0)) (same_bytes s (creator 1))
+
 -- exactly one SID
 pub record OneSid (s : List ℕ) : Type 0 where
   pub some : 0 < length_of_sid s
@@ -102,18 +166,25 @@ one-sid s h =
     let f = both_true (ltb 0 (length_of_sid s)) _ h in
     record { some = ltb-true _ _ f.0; exact = eqb-true _ _ f.1 }
 
--- fewer than eight bytes are no SID; of more, only the length is left to test
+-- fewer than eight bytes are no SID
 pub short-sid : (s : List ℕ) → length s < 8 → is_sid s ≡ false
 unfolding is_sid
 short-sid s h =
     sid-cases s (λ (n : ℕ). (ltb 0 n && eqb (length s) n) ≡ false) refl
     (λ n p. rw (lt-ltb 0 (8 + 4 * n) (omega arith), ne_eqb (length s) (8 + 4 * n) (λ e. omega arith)))
 
-pub long-sid : (s : List ℕ) → 8 ≤ length s → is_sid s ≡ eqb (length s) (length_of_sid s)
-unfolding is_sid
-long-sid s h =
-    sid-cases s (λ (n : ℕ). (ltb 0 n && eqb (length s) n) ≡ eqb (length s) n) (rw (ne_eqb (length s) 0 (λ e. omega arith)))
-    (λ n p. rw (lt-ltb 0 (8 + 4 * n) (omega arith)))
+-- so the test compares with what the reader of lengths answers
+pub eqb-turned : (a b : ℕ) → eqb a b ≡ eqb b a
+eqb-turned a b =
+    elim (ℕ_discrete a b) [
+      | yes e ↦ rw e refl
+      | no f ↦ ne_eqb a b f ∙ sym (ne_eqb b a (λ e. f (sym e)))
+    ]
+
+pub sid-eq : (n m : ℕ) → option_eq eqb (unless_zero n) (Some m) ≡ (ltb 0 n && eqb m n)
+unfolding unless_zero
+sid-eq zero m = refl
+sid-eq (suc n) m = rw (lt-ltb 0 (suc n) (omega arith)) (eqb-turned (suc n) m)
 
 -- a placeholder is twelve bytes long
 pub not-twelve : (s : List ℕ) → (length s ≡ 12 → ⊥) → placeholder_of s ≡ 0
@@ -159,13 +230,13 @@ identity-zero s h = by (is_sid s) refl h
     by false e z = absurd (omega arith)
 
 -- an identity that was made holds the bytes it was made of
-pub record Holds (s : List ℕ) (m : Made) : Type 0 where
-  pub whole : bytes_of m.sid ≡ s
-  pub long : m.sid.len ≡ length s
-  pub most : m.sid.len ≤ 68
-  pub wide : length m.sid.bytes ≡ 68
+pub record Holds (s : List ℕ) (i : Sid) : Type 0 where
+  pub whole : bytes_of i ≡ s
+  pub long : i.len ≡ length s
+  pub most : i.len ≤ 68
+  pub wide : length i.bytes ≡ 68
 
-pub made_holds : (s : List ℕ) → is_sid s ≡ true → Holds s (made_of s)
+pub made_holds : (s : List ℕ) → is_sid s ≡ true → IsSomeAnd (made_of s) (Holds s)
 unfolding made_of
 made_holds s h =
     let o = one-sid s h in

@@ -7,11 +7,12 @@ use lib.ListN.{length, take, drop, get_or, length-append, length-drop, take-appe
 use lib.Seq.{drop-drop, drop_at, take_at, drop-append-le, length-take-le, take_all}
 use Rattle.octets.specs.Bytes.{Bytes, le, spell}
 use Rattle.list.specs.Entry.{Family}
-use Rattle.list.specs.List.{entries_end, entries_of, offsets, rev_of, count_of, check_of}
+use Rattle.list.specs.List.{entries_end, entries_of, offsets, rev_of, count_of, read_as, check_of}
 use Rattle.list.specs.Good.{Whole, Header, Listed, Every}
 use Rattle.list.specs.Spare.{with_spare, bare_by, bare, Sized, size_sum}
-use Rattle.list.specs.declared.lists.Reading.{Reading}
-use Rattle.list.specs.declared.lists.Reading.TheVariants.{Done, Refused}
+use Rattle.std.specs.Prelude.{Result, Ok, Err}
+use Rattle.list.specs.declared.readings.Read.{Read}
+use Rattle.refusal.specs.declared.Fault.{Fault}
 use Rattle.octets.proofs.Little.{le-lt, le-drop-append, length-spell, spell-le, bytes_drop}
 use Rattle.list.proofs.Told.{Told, told, reads}
 use Rattle.list.proofs.Parts.{Laid, laid, size-joined, fewer, field, tiled, passes-built, cut-built, end-built}
@@ -23,7 +24,7 @@ unfolding size_sum flatten
 sums f rev [] ws = refl
 sums f rev (e ∷ es) ws = omega (arith, sums f rev es ws.1, length-append e (flatten es), ws.0.whole)
 
-module _ (f : Family) (s : List ℕ) (l n x : ℕ) (e : check_of f s ≡ Done l n x) where
+module _ (f : Family) (s : List ℕ) (l n x : ℕ) (e : check_of f s ≡ read_as l n x) where
   T : Told f s l n x
   T = told f s l n x e
 
@@ -55,7 +56,7 @@ module _ (f : Family) (s : List ℕ) (l n x : ℕ) (e : check_of f s ≡ Done l 
 -- the reader finds the same in t as in s but for the length: n entries, where they end, which they are and where each begins
 pub record Alike (f : Family) (s : List ℕ) (n x : ℕ) (t : List ℕ) : Type 0 where
   pub listed : Listed f t n
-  pub done : check_of f t ≡ Done (length t) n x
+  pub done : check_of f t ≡ read_as (length t) n x
   pub rev : rev_of t ≡ rev_of s
   pub entries : entries_of t ≡ entries_of s
   pub index : offsets n 8 (drop 8 t) ≡ offsets n 8 (drop 8 s)
@@ -71,7 +72,7 @@ offsets-built f rev (e ∷ es) at v w ws =
     rw (append_assoc, append_assoc, size-joined f rev e a ws.0, size-joined f rev e b ws.0, drop_at e a (length e) refl, drop_at e b (length e) refl)
     (ap (λ (os : List ℕ). at ∷ os) (offsets-built f rev es (at + length e) v w ws.1))
 
-module _ (f : Family) (s : List ℕ) (l n x : ℕ) (e : check_of f s ≡ Done l n x) (v : List ℕ) (fits : x + length v < 65536) where
+module _ (f : Family) (s : List ℕ) (l n x : ℕ) (e : check_of f s ≡ read_as l n x) (v : List ℕ) (fits : x + length v < 65536) where
   abbrev H : Header s
   H = (told f s l n x e).listed.head
 
@@ -182,7 +183,7 @@ module _ (f : Family) (s : List ℕ) (l n x : ℕ) (e : check_of f s ≡ Done l 
       record { head = header-new; count = sym c; passes = rw (r, behind-head, ← d.count) (passes-built f (rev_of s) es v d.wholes) } in
       record {
         listed = g;
-        done = reads f new n g ∙ ap (Done (length new) n) (rw (behind-head, ← d.count) (end-built f (rev_of s) es 8 v d.wholes) ∙ sym (end_is f s l n x e));
+        done = reads f new n g ∙ ap (read_as (length new) n) (rw (behind-head, ← d.count) (end-built f (rev_of s) es 8 v d.wholes) ∙ sym (end_is f s l n x e));
         rev = r;
         entries = rw (c, behind-head, ← d.count) (cut-built f (rev_of s) es v d.wholes);
         index = index-new;
@@ -191,9 +192,9 @@ module _ (f : Family) (s : List ℕ) (l n x : ℕ) (e : check_of f s ≡ Done l 
 -- ---- no spare bytes
 
 -- the answer for such a list: the end is its length
-unfoldable pub bare_reading : Reading → Reading
-bare_reading (Done l n x) = Done x n x
-bare_reading (Refused k at) = Refused k at
+unfoldable pub bare_reading : Result Read Fault → Result Read Fault
+bare_reading (Ok r) = read_as r.end r.count r.end
+bare_reading (Err fault) = Err fault
 
 pub bytes-sized : (f : Family) (s : List ℕ) → Bytes s → Sized f s
 bytes-sized f s b l n x e =
@@ -204,36 +205,39 @@ pub short-sized : (f : Family) (s : List ℕ) → length s < 65536 → Sized f s
 short-sized f s h l n x e = omega (arith, (told f s l n x e).whole)
 
 module _ (f : Family) (s : List ℕ) (sized : Sized f s) where
-  module _ (l n x : ℕ) (e : check_of f s ≡ Done l n x) where
+  module _ (l n x : ℕ) (e : check_of f s ≡ read_as l n x) where
     room-left : x + 0 < 65536
     room-left = omega (arith, (end-within f s l n x e).1, sized l n x e)
 
     pub bare-length : length (bare f s) ≡ x
     unfolding bare_by
-    bare-length = ap (λ (r : Reading). length (bare_by r s)) e ∙ length-with f s l n x e [] room-left ∙ omega arith
+    bare-length = ap (λ (r : Result Read Fault). length (bare_by r s)) e ∙ length-with f s l n x e [] room-left ∙ omega arith
 
     pub bare_alike : Alike f s n x (bare f s)
     unfolding bare_by
-    bare_alike = subst (λ (r : Reading). Alike f s n x (bare_by r s)) (sym e) (any-spare f s l n x e [] room-left)
+    bare_alike = subst (λ (r : Result Read Fault). Alike f s n x (bare_by r s)) (sym e) (any-spare f s l n x e [] room-left)
 
   pub bare-reads : check_of f (bare f s) ≡ bare_reading (check_of f s)
   unfolding bare_by bare_reading
   bare-reads = by (check_of f s) refl
     where
-      by : (r : Reading) → check_of f s ≡ r → check_of f (bare_by r s) ≡ bare_reading r
-      by (Done l n x) q =
-          let a = subst (λ (r : Reading). check_of f (bare_by r s) ≡ Done (length (bare_by r s)) n x) q (bare_alike l n x q).done in
-          a ∙ ap (λ (y : ℕ). Done y n x) (ap (λ (r : Reading). length (bare_by r s)) (sym q) ∙ bare-length l n x q)
-      by (Refused k at) q = q
+      by : (r : Result Read Fault) → check_of f s ≡ r → check_of f (bare_by r s) ≡ bare_reading r
+      by (Ok r) q =
+          let l = r.length in
+          let n = r.count in
+          let x = r.end in
+          let a = subst (λ (r : Result Read Fault). check_of f (bare_by r s) ≡ read_as (length (bare_by r s)) n x) q (bare_alike l n x q).done in
+          a ∙ ap (λ (y : ℕ). read_as y n x) (ap (λ (r : Result Read Fault). length (bare_by r s)) (sym q) ∙ bare-length l n x q)
+      by (Err fault) q = q
 
   -- what holds of s, and of it without spare bytes where it reads as done
-  of_bare : (P : List ℕ → Type 0) → P s → ((l n x : ℕ) → check_of f s ≡ Done l n x → P (bare f s)) → P (bare f s)
+  of_bare : (P : List ℕ → Type 0) → P s → ((l n x : ℕ) → check_of f s ≡ read_as l n x → P (bare f s)) → P (bare f s)
   unfolding bare_by
   of_bare P a k = by (check_of f s) refl
     where
-      by : (r : Reading) → check_of f s ≡ r → P (bare_by r s)
-      by (Done l n x) q = subst (λ (r : Reading). P (bare_by r s)) q (k l n x q)
-      by (Refused j at) q = a
+      by : (r : Result Read Fault) → check_of f s ≡ r → P (bare_by r s)
+      by (Ok r) q = subst (λ (o : Result Read Fault). P (bare_by o s)) q (k r.length r.count r.end q)
+      by (Err fault) q = a
 
   pub bare-shorter : length (bare f s) ≤ length s
   bare-shorter = of_bare (λ t. length t ≤ length s) (omega arith) (λ l n x q. omega (arith, bare-length l n x q, (end-within f s l n x q).1, (told f s l n x q).whole))
@@ -242,7 +246,7 @@ module _ (f : Family) (s : List ℕ) (sized : Sized f s) where
   bare-entries = of_bare (λ t. entries_of t ≡ entries_of s) refl (λ l n x q. (bare_alike l n x q).entries)
 
 -- a list that has none is left as it is
-pub bare-already : (f : Family) (s : List ℕ) (l n : ℕ) → Bytes s → check_of f s ≡ Done l n l → bare f s ≡ s
+pub bare-already : (f : Family) (s : List ℕ) (l n : ℕ) → Bytes s → check_of f s ≡ read_as l n l → bare f s ≡ s
 unfolding bare_by with_spare
 bare-already f s l n b e =
     let t = told f s l n l e in
@@ -251,7 +255,7 @@ bare-already f s l n b e =
     let p : spell 2 (l + 0) ≡ take 2 (drop 2 s) = ap (spell 2) z ∙ spell-le 2 (drop 2 s) (omega (arith, h.long, length-drop 2 s)) (bytes_drop 2 s b) in
     let q : take (l - 4) (drop 4 s) ++ [] ≡ drop 2 (drop 2 s) =
     append-nil _ ∙ take_all (l - 4) (drop 4 s) (omega (arith, t.whole, length-drop 4 s)) ∙ sym (drop-drop 2 2 s) in
-    ap (λ (r : Reading). bare_by r s) e
+    ap (λ (r : Result Read Fault). bare_by r s) e
     ∙ ap₂ (λ (a c : List ℕ). take 2 s ++ (a ++ c)) p q
     ∙ ap (λ (u : List ℕ). take 2 s ++ u) (take-append-drop 2 (drop 2 s))
     ∙ take-append-drop 2 s

@@ -1,11 +1,12 @@
 -- The numbers and values (RULES 4.1, 4.2) of each case of an answer.
-use Rattle.std.specs.Prelude.{ℕ, List}
+use Rattle.std.specs.Prelude.{ℕ, List, Result, Ok, Err}
 use Rattle.list.specs.Entry.{access}
 use Rattle.list.specs.List.{check_of, read_of}
-use Rattle.list.specs.declared.entries.Checked.{Checked}
-use Rattle.list.specs.declared.entries.Checked.TheVariants.{Good, Bad}
-use Rattle.list.specs.declared.lists.Reading.{Reading}
-use Rattle.list.specs.declared.lists.Reading.TheVariants.{Done, Refused}
+use Rattle.list.specs.declared.entries.Entry.{Entry}
+use Rattle.list.specs.declared.readings.Read.{Read}
+use Rattle.refusal.specs.Numbers.{number_of}
+use Rattle.refusal.specs.declared.Refusal.{Refusal}
+use Rattle.refusal.specs.declared.Fault.{Fault}
 
 -- the number, which list a refusal concerns, the offset of its entry; length, present or absent, entry count, control, where the entries end
 pub record Values : Type 0 where
@@ -34,14 +35,14 @@ refused number list offset =
     record { number = number; list = list; offset = offset; length = 0; present = 0; count = 0; control = 0; end = 0 }
 
 -- the number of one entry's check: 0 where it is good
-abbrev pub entry_number : Checked → ℕ
-entry_number (Good e) = 0
-entry_number (Bad k) = k
+abbrev pub entry_number : Result Entry Refusal → ℕ
+entry_number (Ok e) = 0
+entry_number (Err why) = number_of why
 
--- the reader's answer: its refusals concern list 0
-abbrev pub reading_values : Reading → Values
-reading_values (Done len n end) = read_done len n end
-reading_values (Refused k at) = refused k 0 at
+-- the reader's answer
+abbrev pub reading_values : Result Read Fault → Values
+reading_values (Ok r) = read_done r.length r.count r.end
+reading_values (Err fault) = refused (number_of fault.why) fault.list fault.at
 
 -- what the test of the access list s answers
 abbrev pub check_values : List ℕ → Values

@@ -1,12 +1,12 @@
 -- One entry of a list (RULES 1.5, 1.6, 4.3), read off the bytes t that it begins; of what follows it in t only the length counts, in (a).
-use Rattle.std.specs.Prelude.{ℕ, ◌+◌, ◌-◌, ◌*◌, ◌/◌, ◌%◌, List, [], ◌∷◌, ◌++◌, Bool, true, cond, ◌&&◌, ◌||◌, length, get_or, take, drop, eqb, leb, ltb}
+use Rattle.std.specs.Prelude.{ℕ, ◌+◌, ◌-◌, ◌*◌, ◌/◌, ◌%◌, List, [], ◌∷◌, ◌++◌, Bool, true, cond, ◌&&◌, ◌||◌, length, get_or, take, drop, eqb, leb, ltb, Result, Ok, Err}
 use Rattle.octets.specs.Order.{need}
 use Rattle.octets.specs.Bytes.{le, spell}
 use Rattle.condition.specs.Kind.{stored_end, up_to_four}
 use Rattle.list.specs.Identity.{length_of_sid}
 use Rattle.list.specs.declared.entries.Entry.{Entry}
-use Rattle.list.specs.declared.entries.Checked.{Checked}
-use Rattle.list.specs.declared.entries.Checked.TheVariants.{Good, Bad}
+use Rattle.refusal.specs.declared.Refusal.{Refusal}
+use Rattle.refusal.specs.declared.Refusal.TheVariants.{Size, Kind, Bits, Sid, Expression}
 
 -- what kind of list an entry stands in: today access lists only
 pub data Family : Type 0 where
@@ -128,16 +128,16 @@ fields_of t =
     }
 
 -- the check of one entry, (a) to (h)
-unfoldable pub entry_of : Family → ℕ → List ℕ → Checked
+unfoldable pub entry_of : Family → ℕ → List ℕ → Result Entry Refusal
 entry_of f rev t =
-    need (leb 4 (length t)) (Bad 2)  -- (a) four bytes are there
-    (need (leb (size_of t) (length t)) (Bad 2)  -- and the size is at most what remains
-    (need (kind_ok f (kind_of t) rev) (Bad 3)  -- (b) type
-    (need (flags_ok f (flags_of t)) (Bad 4)  -- (c) flags
-    (need (leb (head_of (kind_of t)) (size_of t)) (Bad 2)  -- (d) the size holds the mask and, for object types, the word
-    (need (leb (word_of t) 3) (Bad 4)  -- (e) word
-    (need (leb (sid_at t + 8) (size_of t)) (Bad 2)  -- (f) GUIDs and eight SID bytes fit in the size
-    (need (ltb 0 (sid_len_of t)) (Bad 5)  -- (g) SID
-    (need (expression_ok t) (Bad 15)  -- an acceptable expression
-    (need (size_ok t) (Bad 2)  -- (h) exact size
-    (Good (fields_of t)))))))))))
+    need (leb 4 (length t)) (Err Size)  -- (a) four bytes are there
+    (need (leb (size_of t) (length t)) (Err Size)  -- and the size is at most what remains
+    (need (kind_ok f (kind_of t) rev) (Err Kind)  -- (b) type
+    (need (flags_ok f (flags_of t)) (Err Bits)  -- (c) flags
+    (need (leb (head_of (kind_of t)) (size_of t)) (Err Size)  -- (d) the size holds the mask and, for object types, the word
+    (need (leb (word_of t) 3) (Err Bits)  -- (e) word
+    (need (leb (sid_at t + 8) (size_of t)) (Err Size)  -- (f) GUIDs and eight SID bytes fit in the size
+    (need (ltb 0 (sid_len_of t)) (Err Sid)  -- (g) SID
+    (need (expression_ok t) (Err Expression)  -- an acceptable expression
+    (need (size_ok t) (Err Size)  -- (h) exact size
+    (Ok (fields_of t)))))))))))

@@ -1,13 +1,15 @@
 -- A whole list (RULES 1.4, 1.7, 4.3): its header, its entries one after the other, their offsets, and what the reader answers.
-use Rattle.std.specs.Prelude.{ℕ, zero, suc, ◌+◌, Bool, cond, ◌&&◌, ◌||◌, length, get_or, take, drop, eqb, leb}
+use Rattle.std.specs.Prelude.{ℕ, zero, suc, ◌+◌, Bool, cond, ◌&&◌, ◌||◌, length, get_or, take, drop, eqb, leb, Result, Ok, Err}
 use mathlib.Core.List.{List, [], ◌∷◌, ◌++◌, flatten}
 use Rattle.std.proofs.Math.Option.{Option, none, some}
 use Rattle.octets.specs.Bytes.{le, spell}
 use Rattle.list.specs.Entry.{Family, size_of, entry_of}
-use Rattle.list.specs.declared.entries.Checked.{Checked}
-use Rattle.list.specs.declared.entries.Checked.TheVariants.{Good, Bad}
-use Rattle.list.specs.declared.lists.Reading.{Reading}
-use Rattle.list.specs.declared.lists.Reading.TheVariants.{Done, Refused}
+use Rattle.list.specs.declared.entries.Entry.{Entry}
+use Rattle.list.specs.declared.readings.Read.{Read}
+use Rattle.refusal.specs.Faults.{fault_at}
+use Rattle.refusal.specs.declared.Refusal.{Refusal}
+use Rattle.refusal.specs.declared.Refusal.TheVariants.{Header, Room}
+use Rattle.refusal.specs.declared.Fault.{Fault}
 
 -- a list's bytes, or none where it is absent
 abbrev pub MaybeList : Type 0
@@ -62,37 +64,44 @@ head_bytes rev size count = (rev ∷ 0 ∷ []) ++ (spell 2 size ++ (spell 2 coun
 unfoldable pub render : ℕ → List (List ℕ) → List ℕ
 render rev es = head_bytes rev (8 + length (flatten es)) (length es) ++ flatten es
 
+-- a list that was read: its length, its count and where its entries end; and one that is refused, with the offset of its entry
+abbrev pub read_as : ℕ → ℕ → ℕ → Result Read Fault
+read_as len n end = Ok (record { length = len; count = n; end = end })
+
+abbrev pub unread : Refusal → ℕ → Result Read Fault
+unread why at = Err (fault_at why at)
+
 -- a bad entry at `at` is the answer, a good one leaves it to what follows
-unfoldable pub on_good : Checked → ℕ → Reading → Reading
-on_good (Good e) at rest = rest
-on_good (Bad k) at rest = Refused k at
+unfoldable pub on_good : Result Entry Refusal → ℕ → Result Read Fault → Result Read Fault
+on_good (Ok e) at rest = rest
+on_good (Err why) at rest = unread why at
 
 -- n entries begin t, which lies at `at`: then `done` of where they end; else the earliest refusal
-unfoldable pub walk_of : Family → ℕ → ℕ → ℕ → List ℕ → (ℕ → Reading) → Reading
+unfoldable pub walk_of : Family → ℕ → ℕ → ℕ → List ℕ → (ℕ → Result Read Fault) → Result Read Fault
 walk_of f rev zero at t done = done at
 walk_of f rev (suc n) at t done = on_good (entry_of f rev t) at (walk_of f rev n (at + size_of t) (drop (size_of t) t) done)
 
 -- where the entries end: what follows there, up to the size, is spare and looked at by nothing
-unfoldable pub finish : ℕ → ℕ → ℕ → Reading
-finish len n end = Done len n end
+unfoldable pub finish : ℕ → ℕ → ℕ → Result Read Fault
+finish len n end = read_as len n end
 
 -- a list without its index: the header (1), then entry after entry (2 to 5, 15)
-unfoldable pub check_of : Family → List ℕ → Reading
+unfoldable pub check_of : Family → List ℕ → Result Read Fault
 check_of f s =
     cond (header_ok s)
     (walk_of f (rev_of s) (count_of s) 8 (drop 8 s) (finish (length s) (count_of s)))
-    (Refused 1 0)
+    (unread Header 0)
 
 -- a row of m elements holds the index of a good list, or there is no room (8)
-unfoldable pub with_row : ℕ → Reading → Reading
-with_row m (Done len n end) = cond (leb n m) (Done len n end) (Refused 8 0)
-with_row m (Refused k at) = Refused k at
+unfoldable pub with_row : ℕ → Result Read Fault → Result Read Fault
+with_row m (Ok r) = cond (leb r.count m) (Ok r) (unread Room 0)
+with_row m (Err fault) = Err fault
 
 -- what the reader answers for the list s and a row of m elements
-unfoldable pub read_of : Family → List ℕ → ℕ → Reading
+unfoldable pub read_of : Family → List ℕ → ℕ → Result Read Fault
 read_of f s m = with_row m (check_of f s)
 
 -- the row afterwards: the offsets up to the count and the rest unchanged; as it was where the list is refused
-unfoldable pub row_by : Reading → List ℕ → List ℕ → List ℕ
-row_by (Done len n end) s row = offsets n 8 (drop 8 s) ++ drop n row
-row_by (Refused k at) s row = row
+unfoldable pub row_by : Result Read Fault → List ℕ → List ℕ → List ℕ
+row_by (Ok r) s row = offsets r.count 8 (drop 8 s) ++ drop r.count row
+row_by (Err fault) s row = row

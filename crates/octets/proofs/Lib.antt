@@ -7,3 +7,4 @@ pub mod Bits
 pub mod Determinacy
 pub mod Determined
 pub mod Examples
+pub mod Absent

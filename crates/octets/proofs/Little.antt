@@ -7,6 +7,7 @@ use native.Mathlib.Nat.{mod-add-div, mod-eq_of_lt, div-eq_of_lt, div-lt_iff_lt-m
 use native.Mathlib.Omega.{arith}
 use lib.ListN.{length, get_or, drop, take, length-drop, drop_of_length-le}
 use lib.Seq.{get_or-drop, drop-drop, drop-nil, drop-append-le}
+use Rattle.std.specs.Int.{w16, w32, from_le_bytes}
 use Rattle.octets.specs.Bytes.{Bytes, le, spell}
 
 pub le-nil : (k : ℕ) → le k [] ≡ 0
@@ -86,3 +87,25 @@ spell-le (suc k) (b ∷ s) h d =
 -- so bytes that spell the same number are the same
 pub le_same : (k : ℕ) (a b : List ℕ) → k ≤ length a → k ≤ length b → Bytes a → Bytes b → le k a ≡ le k b → take k a ≡ take k b
 le_same k a b ha hb da db e = sym (spell-le k a ha da) ∙ ap (spell k) e ∙ spell-le k b hb db
+
+-- so many bytes are enough for a number of so many
+pub le-take : (k : ℕ) (s : List ℕ) → le k (take k s) ≡ le k s
+unfolding le
+le-take zero s = refl
+le-take (suc k) [] = refl
+le-take (suc k) (b ∷ s) = ap (λ n. b + 256 * n) (le-take k s)
+
+-- std's numbers of two and of four bytes
+pub le-half : (s : List ℕ) → from_le_bytes w16 (take 2 s) ≡ le 2 s
+unfolding le
+le-half [] = refl
+le-half (a ∷ []) = omega arith
+le-half (a ∷ b ∷ s) = omega arith
+
+pub le-word : (s : List ℕ) → from_le_bytes w32 (take 4 s) ≡ le 4 s
+unfolding le
+le-word [] = refl
+le-word (a ∷ []) = omega arith
+le-word (a ∷ b ∷ []) = omega arith
+le-word (a ∷ b ∷ c ∷ []) = omega arith
+le-word (a ∷ b ∷ c ∷ d ∷ s) = omega arith

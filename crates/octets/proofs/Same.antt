@@ -7,6 +7,8 @@ use native.Mathlib.Omega.{arith}
 use lib.ListN.{length, get_or, take, drop, length-drop, take-append-drop}
 use lib.Seq.{get_or-take, get_or-drop, drop-drop, length-take-le}
 use lib.Dec.{eqb}
+use lib.Pointwise.{pointwise}
+use Rattle.std.specs.Prelude.{nat_eq}
 use borrow.Author.Tests.{eq-eqb, eqb-true}
 use Rattle.octets.specs.Bytes.{Bytes, le, same_bytes}
 use Rattle.octets.proofs.Tests.{both_true, false-or}
@@ -82,3 +84,11 @@ module _ (k i : ℕ) (a b : List ℕ) (ha : i + k ≤ length a) (hb : i + k ≤ 
       let s : take k (drop i a) ≡ take k (drop i b) =
       le_same k (drop i a) (drop i b) (there a ha) (there b hb) (bytes_drop i a da) (bytes_drop i b db) e in
       next-split ∙ rw (same-yes (take k (drop i a)) (take k (drop i b)) s)
+
+-- std's test of two slices is the one by bytes
+pub same-pointwise : (a b : List ℕ) → pointwise nat_eq a b ≡ same_bytes a b
+unfolding same_bytes
+same-pointwise [] [] = refl
+same-pointwise [] (y ∷ b) = refl
+same-pointwise (x ∷ a) [] = refl
+same-pointwise (x ∷ a) (y ∷ b) = ap (λ t. eqb x y && t) (same-pointwise a b)

@@ -10,12 +10,14 @@ use lib.Seq.{drop-drop, drop-append-le, take-append-le}
 use Rattle.octets.specs.Bytes.{Bytes}
 use Rattle.octets.proofs.Little.{bytes_drop}
 use Rattle.octets.proofs.Tests.{off}
-use Rattle.script.specs.Record.{record_number, record_asks, record_size, step_of}
+use Rattle.script.specs.Record.{record_asks, record_size, step_of}
 use Rattle.script.specs.Fold.{Run, past, carried, on_step, run_by, run_of, Stage, ahead, on_piece, in_pieces, all_pieces}
-use Rattle.script.specs.declared.records.Found.{Found}
-use Rattle.script.specs.declared.records.Found.TheVariants.{Cut, Bad, Record}
+use Rattle.std.specs.Prelude.{Result, Ok, Err}
+use Rattle.script.specs.declared.records.Flaw.{Flaw}
+use Rattle.script.specs.declared.records.Flaw.TheVariants.{Cut, Bad}
+use Rattle.script.specs.declared.records.Record.{Record}
 use Rattle.tree.specs.Shown.{call_on}
-use Rattle.script.proofs.Steps.{size-some, size-most, never, by-step, step-record, step_cut, step-bad, step-short, step-append}
+use Rattle.script.proofs.Steps.{record_at, size-some, size-most, never, by-step, step-record, step_cut, step-bad, step-short, step-append}
 
 -- ---- going on
 
@@ -33,15 +35,15 @@ past-cond n false f g = refl
 
 -- ---- record by record
 
-on_same : (f : Found) (r : List ℕ) (g h : ℕ → Run) → ((n k : ℕ) → f ≡ Record n k → g n ≡ h n) → on_step f r g ≡ on_step f r h
+on_same : (f : Result Record Flaw) (r : List ℕ) (g h : ℕ → Run) → ((a : Record) → f ≡ Ok a → g a.length ≡ h a.length) → on_step f r g ≡ on_step f r h
 unfolding on_step
-on_same Cut r g h e = refl
-on_same Bad r g h e = refl
-on_same (Record n k) r g h e = ap (past n) (e n k refl)
+on_same (Err Cut) r g h e = refl
+on_same (Err Bad) r g h e = refl
+on_same (Ok a) r g h e = ap (past a.length) (e a refl)
 
 -- fewer bytes are left after a record
-shorter : (t : List ℕ) (n k : ℕ) → step_of t ≡ Record n k → length (drop n t) < length t
-shorter t n k e = let s = step-record t n k e in rw length-drop (omega (arith, size-some t))
+shorter : (t : List ℕ) (a : Record) → step_of t ≡ Ok a → length (drop a.length t) < length t
+shorter t a e = let s = step-record t a e in let l : a.length ≡ record_size t = ap (λ (x : Record). x.length) s.0 in rw length-drop (omega (arith, size-some t))
 
 -- how many records there may be doesn't count, if it is more than there are bytes
 run-by : (j k : ℕ) (t r : List ℕ) → length t < j → length t < k → run_by j t r ≡ run_by k t r
@@ -49,37 +51,38 @@ unfolding run_by
 run-by zero k t r a b = absurd (omega arith)
 run-by (suc j) zero t r a b = absurd (omega arith)
 run-by (suc j) (suc k) t r a b =
-    on_same (step_of t) r _ _ (λ n q e. let l = shorter t n q e in run-by j k (drop n t) (carried n t r) (omega arith) (omega arith))
+    on_same (step_of t) r _ _ (λ x e. let l = shorter t x e in run-by j k (drop x.length t) (carried x.length t r) (omega arith) (omega arith))
 
 module _ (t r : List ℕ) where
-  pub run-stops : step_of t ≡ Cut → run_of t r ≡ record { used = 0; bad = false; room = r }
+  pub run-stops : step_of t ≡ Err Cut → run_of t r ≡ record { used = 0; bad = false; room = r }
   unfolding run_of run_by on_step
   run-stops e = rw e
 
-  pub run-bad : step_of t ≡ Bad → run_of t r ≡ record { used = 0; bad = true; room = r }
+  pub run-bad : step_of t ≡ Err Bad → run_of t r ≡ record { used = 0; bad = true; room = r }
   unfolding run_of run_by on_step
   run-bad e = rw e
 
-  pub run-record : (n k : ℕ) → step_of t ≡ Record n k → run_of t r ≡ past n (run_of (drop n t) (carried n t r))
+  pub run-record : (a : Record) → step_of t ≡ Ok a → run_of t r ≡ past a.length (run_of (drop a.length t) (carried a.length t r))
   unfolding run_of run_by on_step
-  run-record n k e =
-      let l = shorter t n k e in
+  run-record a e =
+      let n = a.length in
+      let l : length (drop n t) < length t = shorter t a e in
       rw e (ap (past n) (run-by (length t) (suc (length (drop n t))) (drop n t) (carried n t r) (omega arith) (omega arith)))
 
 pub run_none : (r : List ℕ) → run_of [] r ≡ record { used = 0; bad = false; room = r }
 run_none r = run-stops [] r (step-short [] (size-some []))
 
 -- what holds where a run stops, and before a record if it holds behind, holds of every run
-pub by-records {ℓ} : (P : List ℕ → List ℕ → Type ℓ) → ((t r : List ℕ) → step_of t ≡ Cut → P t r) → ((t r : List ℕ) → step_of t ≡ Bad → P t r)
-    → ((t r : List ℕ) (n k : ℕ) → step_of t ≡ Record n k → P (drop n t) (carried n t r) → P t r) → (t r : List ℕ) → P t r
+pub by-records {ℓ} : (P : List ℕ → List ℕ → Type ℓ) → ((t r : List ℕ) → step_of t ≡ Err Cut → P t r) → ((t r : List ℕ) → step_of t ≡ Err Bad → P t r)
+    → ((t r : List ℕ) (a : Record) → step_of t ≡ Ok a → P (drop a.length t) (carried a.length t r) → P t r) → (t r : List ℕ) → P t r
 by-records P cut bad whole t r = within (suc (length t)) t r (omega arith)
   where
     within : (k : ℕ) (t r : List ℕ) → length t < k → P t r
     within zero t r h = absurd (omega arith)
     within (suc k) t r h =
         by-step t (λ e l. cut t r e) (λ e l. bad t r e)
-        (λ e l. let s = shorter t (record_size t) (record_number t) e in
-        whole t r (record_size t) (record_number t) e (within k (drop (record_size t) t) (carried (record_size t) t r) (omega arith)))
+        (λ e l. let s = shorter t (record_at t) e in
+        whole t r (record_at t) e (within k (drop (record_size t) t) (carried (record_size t) t r) (omega arith)))
 
 pub run-used : (t r : List ℕ) → (run_of t r).used ≤ length t
 unfolding past
@@ -87,7 +90,7 @@ run-used =
     by-records (λ t r. (run_of t r).used ≤ length t)
     (λ t r e. rw (run-stops t r e) (omega arith))
     (λ t r e. rw (run-bad t r e) (omega arith))
-    (λ t r n k e h. rw (run-record t r n k e) (omega (arith, length-drop n t, (step-record t n k e).1)))
+    (λ t r a e h. rw (run-record t r a e) (omega (arith, length-drop a.length t, (step-record t a e).1)))
 
 -- a buffer that holds the longest record has room for more
 pub left-short : (t r : List ℕ) → Bytes t → (run_of t r).bad ≡ false → length t - (run_of t r).used < 66069
@@ -96,9 +99,10 @@ left-short =
     by-records (λ t r. Bytes t → (run_of t r).bad ≡ false → length t - (run_of t r).used < 66069)
     (λ t r e b f. rw (run-stops t r e) (omega (arith, step_cut t e, size-most t b)))
     (λ t r e b f. absurd (off (ap (λ (g : Run). g.bad) (run-bad t r e)) f))
-    (λ t r n k e h b f.
-    let g : (run_of (drop n t) (carried n t r)).bad ≡ false = sym (ap (λ (g : Run). g.bad) (run-record t r n k e)) ∙ f in
-    rw (run-record t r n k e) (omega (arith, length-drop n t, h (bytes_drop n t b) g)))
+    (λ t r a e h b f.
+    let n = a.length in
+    let g : (run_of (drop n t) (carried n t r)).bad ≡ false = sym (ap (λ (g : Run). g.bad) (run-record t r a e)) ∙ f in
+    rw (run-record t r a e) (omega (arith, length-drop n t, h (bytes_drop n t b) g)))
 
 -- a bad record has bytes
 pub bad-short : (t r : List ℕ) → (run_of t r).bad ≡ true → (run_of t r).used < length t
@@ -107,9 +111,10 @@ bad-short =
     by-records (λ t r. (run_of t r).bad ≡ true → (run_of t r).used < length t)
     (λ t r e f. absurd (off f (ap (λ (g : Run). g.bad) (run-stops t r e))))
     (λ t r e f. rw (run-bad t r e) (omega (arith, step-bad t e, size-some t)))
-    (λ t r n k e h f.
-    let g : (run_of (drop n t) (carried n t r)).bad ≡ true = sym (ap (λ (g : Run). g.bad) (run-record t r n k e)) ∙ f in
-    rw (run-record t r n k e) (omega (arith, length-drop n t, h g)))
+    (λ t r a e h f.
+    let n = a.length in
+    let g : (run_of (drop n t) (carried n t r)).bad ≡ true = sym (ap (λ (g : Run). g.bad) (run-record t r a e)) ∙ f in
+    rw (run-record t r a e) (omega (arith, length-drop n t, h g)))
 
 -- ---- bytes that come later
 
@@ -138,13 +143,14 @@ run-append t u r =
     (λ t r e.
     let q = step-append t u (λ c. never (cc)) ∙ e in
     rw (run-bad t r e) (run-bad (t ++ u) r q))
-    (λ t r n k e h.
+    (λ t r a e h.
+    let n = a.length in
     let q = step-append t u (λ c. never (cc)) ∙ e in
-    let l = (step-record t n k e).1 in
-    run-record (t ++ u) r n k q
+    let l = (step-record t a e).1 in
+    run-record (t ++ u) r a q
     ∙ rw (drop-append-le n t u l, carried-append n t u r l) (ap (past n) h)
     ∙ goes-past n t u (run_of (drop n t) (carried n t r))
-    ∙ ap (goes_on t u) (sym (run-record t r n k e)))
+    ∙ ap (goes_on t u) (sym (run-record t r a e)))
     t r
 
 -- ---- a script in pieces

@@ -5,7 +5,7 @@ use Prim.Native.Nat.{ℕ, zero, suc, ◌+◌, ◌-◌, ◌*◌, ◌/◌, ◌%◌
 use native.Mathlib.Nat.{le_refl}
 use native.Mathlib.Omega.{arith}
 use lib.ListN.{length, take, drop, set, length-set, length-append, length-drop, drop_of_length-le, take-append-drop}
-use lib.Seq.{drop-cons, drop-length, get_or-set_same, drop-set-lt, take_all, take-nil, drop-nil}
+use lib.Seq.{drop-cons, get_or-set_same, drop-set-lt, take_all, take-nil, drop-nil}
 use Rattle.octets.specs.Bytes.{front, put_on}
 use Rattle.octets.proofs.Places.{split}
 use Rattle.octets.proofs.Tests.{tests}
@@ -66,11 +66,13 @@ drop-store i x t h k =
     drop-cons (set t (i - 1) x) (i - 1) 0 (rw length-set (omega arith))
     ∙ rw (get_or-set_same t (i - 1) x 0 (omega arith), drop-set-lt (suc (i - 1)) t (i - 1) x (omega arith), e)
 
-pub spelt-none : (n : ℕ) (t : List ℕ) → length (decimal n) ≤ length t → Spelt n n (length t) t
-spelt-none n t h = record { room = h; within = le_refl _; whole = rw drop-length (append-nil (decimal n)) }
+pub spelt-none : (n : ℕ) (t : List ℕ) → length t ≡ 20 → n < 18446744073709551616 → Spelt n n 20 t
+spelt-none n t e h =
+    let all : drop 20 t ≡ [] = let l : length t ≤ 20 = omega arith in drop_of_length-le t l in
+    record { room = decimal-20 n h; within = omega arith; whole = rw all (append-nil (decimal n)) }
 
 module _ (n rest i : ℕ) (t : List ℕ) (s : Spelt n rest i t) where
-  pub spelt-left : 1 ≤ i
+  spelt-left : 1 ≤ i
   spelt-left = omega (arith, decimal-some rest, s.room)
 
   pub spelt-more : 10 ≤ rest → Spelt n (rest / 10) (i - 1) (set t (i - 1) (48 + rest % 10))
@@ -85,10 +87,11 @@ module _ (n rest i : ℕ) (t : List ℕ) (s : Spelt n rest i t) where
             ∙ s.whole);
       }
 
-  pub spelt-all : rest < 10 → drop (i - 1) (set t (i - 1) (48 + rest)) ≡ decimal n
+  pub spelt-all : rest < 10 → drop (i - 1) (set t (i - 1) (48 + rest % 10)) ≡ decimal n
   spelt-all h =
-      drop-store i (48 + rest) t spelt-left s.within
-      ∙ ap (λ (l : List ℕ). l ++ drop i t) (sym (decimal-last rest h))
+      let e : rest % 10 ≡ rest = omega arith in
+      drop-store i (48 + rest % 10) t spelt-left s.within
+      ∙ rw e (ap (λ (l : List ℕ). l ++ drop i t) (sym (decimal-last rest h)))
       ∙ s.whole
 
 -- the end of a text, as the code takes it
@@ -160,3 +163,9 @@ unfolding laid_at
 laid-tail at s xs ys e =
     let m : length (drop at xs) ≤ length xs - at = rw length-drop (le_refl _) in
     rw (e, take_all (length xs - at) (drop at xs) m, drop_of_length-le (drop at xs) m, append-nil)
+
+pub ruleset put_rules = (laid-past, laid-tail)
+
+pub ruleset text_rules = (laid-append, length-append)
+
+pub ruleset number_rules = (text-end, decimal-20)

@@ -1,7 +1,7 @@
 -- Laws of the listing: its lines, what the tree answers for each, and the text on the front of what is lent for it.
 use mathlib.Core.Path.{◌≡◌, refl, sym, ap, ◌∙◌}
 use mathlib.Core.List.{List, [], ◌∷◌, ◌++◌}
-use mathlib.Core.Bool.{Bool, true, false, cond}
+use mathlib.Core.Bool.{Bool, true, false, not, cond}
 use mathlib.Core.Option.{none, some}
 use Prim.Native.Nat.{ℕ, zero, suc, ◌+◌, ◌*◌, ◌≤◌, ◌<◌}
 use native.Mathlib.Nat.{zero-add}
@@ -11,16 +11,18 @@ use lib.ListN.{length, get_or, take, drop, length-append}
 use Rattle.list.specs.List.{MaybeList, count_of, lent}
 use Rattle.octets.specs.Bytes.{Bytes, le, part}
 use Rattle.octets.proofs.Little.{bytes_drop, le-lt}
-use Rattle.octets.proofs.Tests.{tests}
+use Rattle.octets.proofs.Tests.{tests, off}
 use Rattle.tree.specs.Shown.{lists_in}
-use Rattle.tree.specs.declared.Answer.{Answer}
-use Rattle.tree.specs.declared.Answer.TheVariants.{Done, Refused}
+use Rattle.std.specs.Prelude.{Ok, Err, IsOk}
+use Rattle.refusal.specs.declared.Fault.{Fault}
+use Rattle.refusal.specs.declared.Refusal.TheVariants as Why
+use Rattle.tree.specs.declared.Done.{Done}
 use Rattle.tree.specs.Held.{has_list, bytes_in, held}
-use Rattle.tree.specs.Room.{objects, slot_at, slot}
+use Rattle.tree.specs.Room.{objects, kept_steps, slot_at, slot}
 use Rattle.tree.specs.Formed.{formed}
 use Rattle.octets.specs.Order.{need}
-use Rattle.tree.proofs.Numbers.{Numbered, promised, numbered-need, numbered-copied}
-use Rattle.tree.specs.Calls.{Promised, told_as, on_object, list_bytes, copied, list_to, counts_to}
+use Rattle.tree.proofs.Numbers.{promised}
+use Rattle.tree.specs.Calls.{Answer, tells, refusal, Promised, told_as, on_object, list_bytes, copied, list_to, counts_to}
 use Rattle.tree.proofs.Tested.{head-says, formed-parts, bytes_most}
 use Rattle.tree.proofs.Tab.{length-tab, get_d-tab}
 use Rattle.script.specs.Text.{decimal, objects_text, none_text, space, newline, columns_by, columns, line, lines, heading, listing, bad_line}
@@ -30,29 +32,30 @@ use Rattle.script.proofs.Laid.{decimal-20, laid-nothing, laid-all, Lays, lays, l
 
 -- ---- the columns
 
-pub columns-none : (n k : ℕ) {is : Bool} → is ≡ false → columns_by n is k ≡ none_text
+pub columns_none : (n k : ℕ) {is : Bool} → is ≡ false → columns_by n is k ≡ none_text
 unfolding columns_by
-columns-none n k e = rw e
+columns_none n k e = rw e
 
-pub columns-some : (n k : ℕ) {is : Bool} → is ≡ true → columns_by n is k ≡ decimal n ++ (space ++ decimal k)
+pub columns-some : (n k : ℕ) (is : Bool) → not is ≡ false → columns_by n is k ≡ decimal n ++ (space ++ decimal k)
 unfolding columns_by
-columns-some n k e = rw e
+columns-some n k true e = refl
+columns-some n k false e = absurd (off refl e)
 
--- from the tree's answer
-pub columns-told : (o : MaybeList) {n k : ℕ} {is : Bool} → told_as o ≡ Done n is k → columns_by n is k ≡ columns o
+-- from what the tree tells of a list
+pub columns-told : (o : MaybeList) {d : Done} → told_as o ≡ Ok d → columns_by d.length d.present d.count ≡ columns o
 unfolding told_as columns
 columns-told none e = cc
 columns-told (some s) e = cc
 
 -- a list's answer is no refusal
-pub told-done : (o : MaybeList) {k w at : ℕ} → told_as o ≡ Refused k w at → ⊥
+pub told-ok : (o : MaybeList) {a : Answer} → told_as o ≡ a → IsOk a
 unfolding told_as
-told-done none e = let z : ◌≡◌ {A = ℕ} 0 1 = cc in omega arith
-told-done (some s) e = let z : ◌≡◌ {A = ℕ} 0 1 = cc in omega arith
+told-ok none e = rw (← e) refl
+told-ok (some s) e = rw (← e) refl
 
--- a line by the tree's answer
-pub line-told : (i : ℕ) (o : MaybeList) {n k at r : ℕ} {is : Bool} {d out : List ℕ} → told_as o ≡ Done n is k
-    → Lays at (decimal i ++ (space ++ (columns_by n is k ++ newline))) d r out → Lays at (line i o) d r out
+-- a line by what the tree tells
+pub line-told : (i : ℕ) (o : MaybeList) {k : Done} {at r : ℕ} {d out : List ℕ} → told_as o ≡ Ok k
+    → Lays at (decimal i ++ (space ++ (columns_by k.length k.present k.count ++ newline))) d r out → Lays at (line i o) d r out
 unfolding line
 line-told i o e l = rw (← columns-told o e) l
 
@@ -112,7 +115,7 @@ lined-all e f h g = let l = lays-then h (rw f at g.laid) in rw (← e) (l.ends �
 -- ---- a text on the front of what is lent for it
 
 module _ (e : Ending) (out : List ℕ) where
-  written-no : length out < length (text_of e) → {a : Answer} → a ≡ Refused 8 0 0 → (a ≡ (text_to e out).answer) × (out ≡ (text_to e out).bytes)
+  written-no : length out < length (text_of e) → {a : Answer} → a ≡ refusal Why.Room 0 0 → (a ≡ (text_to e out).answer) × (out ≡ (text_to e out).bytes)
   unfolding text_to copied need
   written-no h f = simp tests (f, refl)
 
@@ -120,55 +123,38 @@ module _ (e : Ending) (out : List ℕ) where
   unfolding text_to copied need
   written_all h = simp tests (refl, laid-all (text_of e) out h)
 
--- the promise, from the definition's case
-ending-numbered : (e : Ending) → Numbered (ending_answer e)
-unfolding ending_answer
-ending-numbered (Listed os) = tt
-ending-numbered (BadAt n) = tt
-
-text-numbered : (e : Ending) (out : List ℕ) → Numbered (text_to e out).answer
-unfolding text_to
-text-numbered e out = numbered-copied (ending_answer e) (text_of e) out (ending-numbered e)
-
-text-promised : (e : Ending) (out : List ℕ) {a : Answer} {done : List ℕ} → (a ≡ (text_to e out).answer) × (done ≡ (text_to e out).bytes) → Promised (text_to e out) a done
-text-promised e out p = promised (text_to e out) (text-numbered e out) p
-
-listing-numbered : (r out : List ℕ) → Numbered (listing_to r out).answer
-unfolding listing_to
-listing-numbered r out = numbered-need _ 13 out _ (λ z. omega arith) (text-numbered (Listed (lists_in r)) out)
-
 module _ (n : ℕ) (out : List ℕ) {r : ℕ} (e : r ≡ length (bad_line n)) where
-  pub bad-no : length out < r → {a : Answer} → a ≡ Refused 8 0 0 → Promised (text_to (BadAt n) out) a out
+  pub bad-no : length out < r → {a : Answer} → a ≡ refusal Why.Room 0 0 → Promised (text_to (BadAt n) out) a out
   unfolding text_of
-  bad-no h f = text-promised (BadAt n) out (written-no (BadAt n) out (omega arith) f)
+  bad-no h f = promised (text_to (BadAt n) out) (written-no (BadAt n) out (omega arith) f)
 
   pub bad-all : r ≤ length out → {done : List ℕ} → done ≡ laid_at 0 (bad_line n) out
-      → Promised (text_to (BadAt n) out) (Done r false 0) done
+      → Promised (text_to (BadAt n) out) (tells r false 0) done
   unfolding text_of ending_answer
   bad-all h f =
       let w = written_all (BadAt n) out (omega arith) in
-      text-promised (BadAt n) out (ap (λ (k : ℕ). Done k false 0) e ∙ w.0, f ∙ w.1)
+      promised (text_to (BadAt n) out) (ap (λ (k : ℕ). tells k false 0) e ∙ w.0, f ∙ w.1)
 
 module _ (os : List MaybeList) (out : List ℕ) {r : ℕ} (e : r ≡ length (listing os)) where
-  pub listed-no : length out < r → {a : Answer} → a ≡ Refused 8 0 0 → Promised (text_to (Listed os) out) a out
+  pub listed-no : length out < r → {a : Answer} → a ≡ refusal Why.Room 0 0 → Promised (text_to (Listed os) out) a out
   unfolding text_of
-  listed-no h f = text-promised (Listed os) out (written-no (Listed os) out (omega arith) f)
+  listed-no h f = promised (text_to (Listed os) out) (written-no (Listed os) out (omega arith) f)
 
   pub listed-all : r ≤ length out → {n : ℕ} {done : List ℕ} → n ≡ length os → done ≡ laid_at 0 (listing os) out
-      → Promised (text_to (Listed os) out) (Done r true n) done
+      → Promised (text_to (Listed os) out) (tells r true n) done
   unfolding text_of ending_answer
   listed-all h g f =
       let w = written_all (Listed os) out (omega arith) in
-      text-promised (Listed os) out (rw (e, g) w.0, f ∙ w.1)
+      promised (text_to (Listed os) out) (rw (e, g) w.0, f ∙ w.1)
 
 -- ---- a room's listing, by what the tree answers of its counts
 
-pub counts-done : (r : List ℕ) {n k : ℕ} {is : Bool} → counts_to r ≡ Done n is k → (formed r ≡ true) × (n ≡ objects r)
+pub counts-done : (r : List ℕ) {d : Done} → counts_to r ≡ Ok d → (formed r ≡ true) × (d.length ≡ objects r)
 unfolding counts_to
-counts-done r {n} {k} {is} e = by (formed r) refl
+counts-done r {d} e = by (formed r) refl
   where
-    by : (b : Bool) → formed r ≡ b → (formed r ≡ true) × (n ≡ objects r)
-    by true f = let g = rw f at e in (f, (cc))
+    by : (b : Bool) → formed r ≡ b → (formed r ≡ true) × (d.length ≡ objects r)
+    by true f = let g = rw f at e in let q : record { length = objects r; present = true; count = kept_steps r } ≡ d = cc in (f, sym (ap (λ (x : Done). x.length) q))
     by false f = let g = rw f at e in let z : ◌≡◌ {A = ℕ} 0 1 = cc in absurd (omega arith)
 
 pub listing-done : (r out : List ℕ) → formed r ≡ true → {a : Answer} {done : List ℕ}
@@ -176,13 +162,13 @@ pub listing-done : (r out : List ℕ) → formed r ≡ true → {a : Answer} {do
 unfolding listing_to need
 listing-done r out f w = rw f w
 
-pub listing-refused : (r out : List ℕ) {k w at : ℕ} → counts_to r ≡ Refused k w at → Promised (listing_to r out) (Refused k w at) out
+pub listing-refused : (r out : List ℕ) {f : Fault} {a : Answer} → counts_to r ≡ Err f → a ≡ Err f → Promised (listing_to r out) a out
 unfolding counts_to listing_to need
-listing-refused r out {k} {w} {at} e = promised (listing_to r out) (listing-numbered r out) (by (formed r) refl)
+listing-refused r out {f} {a} e q = promised (listing_to r out) (by (formed r) refl)
   where
-    by : (b : Bool) → formed r ≡ b → (Refused k w at ≡ (listing_to r out).answer) × (out ≡ (listing_to r out).bytes)
-    by true f = let g = rw f at e in let z : ◌≡◌ {A = ℕ} 0 1 = cc in absurd (omega arith)
-    by false f = let g = rw f at e in rw f (sym g, refl)
+    by : (b : Bool) → formed r ≡ b → (a ≡ (listing_to r out).answer) × (out ≡ (listing_to r out).bytes)
+    by true g = let h = rw g at e in let z : ◌≡◌ {A = ℕ} 0 1 = cc in absurd (omega arith)
+    by false g = let h = rw g at e in rw g (q ∙ sym h, refl)
 
 -- ---- 4,096 bytes are room enough for every text
 

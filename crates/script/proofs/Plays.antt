@@ -17,17 +17,18 @@ use Rattle.octets.proofs.Writes.{front-all}
 use Rattle.inherit.specs.Compute.{rule_ok}
 use Rattle.tree.specs.Model.{Object, Tree, list_of, objects_of, begun as begun-tree, after, accepted, short_if, limits_ok}
 use Rattle.tree.specs.Shown.{Request, settings_from, meant, lists_in, played_on}
-use Rattle.tree.specs.declared.Answer.{Answer}
 use Rattle.tree.specs.Room.{empty_room}
 use Rattle.tree.specs.Formed.{formed}
 use Rattle.octets.specs.Order.{need}
-use Rattle.tree.specs.Calls.{Promised, answer_values, readable_to, start_ok, start_to}
+use Rattle.tree.specs.Calls.{Answer, Promised, answer_values, readable_to, start_ok, start_to}
 use Rattle.tree.proofs.Lays.{length-settings}
 use Rattle.tree.proofs.Modelled.{objects-length}
 use Rattle.tree.proofs.Demand3.{Shows, demand3, call-keeps}
 use Rattle.script.proofs.Listings.{lists_length, lists_at}
-use Rattle.script.specs.declared.records.Found.{Found}
-use Rattle.script.specs.declared.records.Found.TheVariants.{Cut, Bad, Record}
+use Rattle.std.specs.Prelude.{Result, Ok, Err}
+use Rattle.script.specs.declared.records.Flaw.{Flaw}
+use Rattle.script.specs.declared.records.Flaw.TheVariants.{Cut, Bad}
+use Rattle.script.specs.declared.records.Record.{Record}
 use Rattle.script.specs.Record.{record_asks, step_of}
 use Rattle.script.specs.Fold.{Run, past, carried, on_step, run_by, run_of, on_call, calls_by, calls_of, ahead, in_pieces, all_pieces}
 use Rattle.script.proofs.Folds.{run-used, pieces-same}
@@ -69,11 +70,11 @@ fresh-formed = (script-shows []).well
 
 -- ---- records leave a room well formed
 
-step-formed : (x : Found) (r : List ℕ) (next : ℕ → Run) → formed r ≡ true → ((n : ℕ) → formed (next n).room ≡ true) → formed (on_step x r next).room ≡ true
+step-formed : (x : Result Record Flaw) (r : List ℕ) (next : ℕ → Run) → formed r ≡ true → ((n : ℕ) → formed (next n).room ≡ true) → formed (on_step x r next).room ≡ true
 unfolding on_step past
-step-formed Cut r next h f = h
-step-formed Bad r next h f = h
-step-formed (Record n k) r next h f = f n
+step-formed (Err Cut) r next h f = h
+step-formed (Err Bad) r next h f = h
+step-formed (Ok a) r next h f = f a.length
 
 formed-by : (more : ℕ) (t r : List ℕ) → formed r ≡ true → formed (run_by more t r).room ≡ true
 unfolding run_by carried
@@ -88,12 +89,12 @@ run-formed t r h = formed-by (suc (length t)) t r h
 
 -- ---- the room after a script is the room after the calls that it asks
 
-step-played : (x : Found) (r₀ : List ℕ) (qs : List Request) (next : ℕ → Run) (calls : ℕ → List Request)
+step-played : (x : Result Record Flaw) (r₀ : List ℕ) (qs : List Request) (next : ℕ → Run) (calls : ℕ → List Request)
     → ((n : ℕ) → (next n).room ≡ played_on (calls n) r₀) → (on_step x (played_on qs r₀) next).room ≡ played_on (on_call x qs calls) r₀
 unfolding on_step on_call past
-step-played Cut r₀ qs next calls f = refl
-step-played Bad r₀ qs next calls f = refl
-step-played (Record n k) r₀ qs next calls f = f n
+step-played (Err Cut) r₀ qs next calls f = refl
+step-played (Err Bad) r₀ qs next calls f = refl
+step-played (Ok a) r₀ qs next calls f = f a.length
 
 played-by : (more : ℕ) (t r₀ : List ℕ) (qs : List Request) → (run_by more t (played_on qs r₀)).room ≡ played_on (calls_by more t qs) r₀
 unfolding run_by calls_by carried played_on

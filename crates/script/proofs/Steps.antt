@@ -1,18 +1,23 @@
 -- Laws of one record: how long it is, when it is cut, bad or whole, and that bytes behind a whole one don't count.
 use mathlib.Core.Path.{◌≡◌, refl, sym, ap, ap₂, ◌∙◌}
-use mathlib.Core.List.{List, ◌++◌}
+use mathlib.Core.List.{List, [], ◌∷◌, ◌++◌}
 use mathlib.Core.Bool.{Bool, true, false, ◌&&◌}
-use Prim.Native.Nat.{ℕ, ◌+◌, ◌≤◌, ◌<◌}
+use Prim.Native.Nat.{ℕ, zero, suc, ◌+◌, ◌≤◌, ◌<◌}
 use native.Mathlib.Omega.{arith}
-use lib.ListN.{length, get_or, drop, length-append, get_or-append}
+use lib.ListN.{length, get_or, take, drop, length-append, get_or-append}
+use lib.Seq.{take-nil}
 use lib.Dec.{eqb, leb}
 use borrow.Author.Tests.{le-leb, lt-leb}
 use native.Mathlib.Decide.{ℕ_discrete}
-use Rattle.octets.specs.Bytes.{Bytes}
+use Rattle.octets.specs.Bytes.{Bytes, part}
 use Rattle.octets.proofs.Little.{bytes_drop, le-lt, le-drop-append}
 use Rattle.octets.proofs.Places.{split}
-use Rattle.script.specs.Record.{record_number, name_end, names_end, list_end, flag_ok, record_size, form_ok, step_of}
-use Rattle.script.specs.declared.records.Found.TheVariants.{Cut, Bad, Record}
+use Rattle.std.specs.Prelude.{Ok, Err}
+use Rattle.tree.specs.Shown.{call_on}
+use Rattle.script.specs.Fold.{carried}
+use Rattle.script.specs.Record.{record_number, name_end, names_end, list_end, flag_ok, record_size, form_ok, asks_by, request_of, record_asks, step_of}
+use Rattle.script.specs.declared.records.Flaw.TheVariants.{Cut, Bad}
+use Rattle.script.specs.declared.records.Record.{Record}
 use Rattle.script.proofs.Tables.{size-1, size-2, size-3, size-4, size-5, form-1, form-2, form-3, form-4, form-5}
 
 -- ---- where names and lists end
@@ -87,10 +92,14 @@ by-test false f g = g refl
 pub never : ◌≡◌ {A = ℕ} 0 1 → ⊥
 never z = omega arith
 
+-- the record that t begins with, where it is whole
+abbrev pub record_at : List ℕ → Record
+record_at t = record { length = record_size t; asks = asks_by (record_number t) }
+
 module _ (t : List ℕ) where
   -- a record is one of the three, and what that says of its length
-  pub by-step {ℓ} : {X : Type ℓ} → (step_of t ≡ Cut → length t < record_size t → X) → (step_of t ≡ Bad → record_size t ≤ length t → X)
-      → (step_of t ≡ Record (record_size t) (record_number t) → record_size t ≤ length t → X) → X
+  pub by-step {ℓ} : {X : Type ℓ} → (step_of t ≡ Err Cut → length t < record_size t → X) → (step_of t ≡ Err Bad → record_size t ≤ length t → X)
+      → (step_of t ≡ Ok (record_at t) → record_size t ≤ length t → X) → X
   unfolding step_of
   by-step cut bad whole =
       split (record_size t) (length t)
@@ -100,17 +109,20 @@ module _ (t : List ℕ) where
       (λ f. bad (rw (le-leb (record_size t) (length t) h, f)) h))
       (λ h. cut (rw (lt-leb (record_size t) (length t) h)) h)
 
-  pub step-record : (n k : ℕ) → step_of t ≡ Record n k → (n ≡ record_size t) × (n ≤ length t)
-  step-record n k e =
-      by-step (λ f h. absurd (never (cc))) (λ f h. absurd (never (cc))) (λ f h. let q : n ≡ record_size t = cc in (q, omega arith))
+  pub step-record : (a : Record) → step_of t ≡ Ok a → (a ≡ record_at t) × (a.length ≤ length t)
+  step-record a e =
+      by-step (λ f h. absurd (never (cc))) (λ f h. absurd (never (cc))) (λ f h. let q : a ≡ record_at t = cc in (q, rw q h))
 
-  pub step-bad : step_of t ≡ Bad → record_size t ≤ length t
+  pub record-some : (a : Record) → step_of t ≡ Ok a → 1 ≤ a.length
+  record-some a e = rw (step-record a e).0 (size-some t)
+
+  pub step-bad : step_of t ≡ Err Bad → record_size t ≤ length t
   step-bad e = by-step (λ f h. absurd (never (cc))) (λ f h. h) (λ f h. h)
 
-  pub step_cut : step_of t ≡ Cut → length t < record_size t
+  pub step_cut : step_of t ≡ Err Cut → length t < record_size t
   step_cut e = by-step (λ f h. h) (λ f h. absurd (never (cc))) (λ f h. absurd (never (cc)))
 
-  pub step-short : length t < record_size t → step_of t ≡ Cut
+  pub step-short : length t < record_size t → step_of t ≡ Err Cut
   step-short h = by-step (λ f g. f) (λ f g. absurd (omega arith)) (λ f g. absurd (omega arith))
 
 -- ---- bytes behind
@@ -154,8 +166,23 @@ module _ (t u : List ℕ) (h : record_size t ≤ length t) where
       (λ e. form-4 (t ++ u) (number_append ∙ e) ∙ sym (form-4 t e))
       (λ x y z w. form-5 (t ++ u) (behind x) (behind y) (behind z) (behind w) ∙ ap (λ (n : ℕ). eqb n 5) number_append ∙ sym (form-5 t x y z w))
 
+-- a record's own bytes say as much
+pub number_own : (t : List ℕ) (n : ℕ) → 1 ≤ n → record_number (take n t) ≡ record_number t
+number_own [] n h = ap (λ (s : List ℕ). get_or s 0 0) (take-nil n)
+number_own (x ∷ t) zero h = absurd (omega arith)
+number_own (x ∷ t) (suc n) h = refl
+
+-- what a whole record asks, by the bytes p that the code hands on
+pub asked_own : (t r p : List ℕ) (a : Record) → step_of t ≡ Ok a → p ≡ part 0 a.length t → (call_on (request_of a.asks p) r).bytes ≡ carried a.length t r
+unfolding carried record_asks part
+asked_own t r p a e h =
+    let q = (step-record t a e).0 in
+    let l = record-some t a e in
+    let k : a.asks ≡ asks_by (record_number (take a.length t)) = ap (λ (x : Record). x.asks) q ∙ ap asks_by (sym (number_own t a.length l)) in
+    rw (h, k) refl
+
 -- a record that isn't cut stays what it is
-pub step-append : (t u : List ℕ) → (step_of t ≡ Cut → ⊥) → step_of (t ++ u) ≡ step_of t
+pub step-append : (t u : List ℕ) → (step_of t ≡ Err Cut → ⊥) → step_of (t ++ u) ≡ step_of t
 unfolding step_of
 step-append t u h =
     split (record_size t) (length t)

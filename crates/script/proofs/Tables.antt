@@ -7,10 +7,9 @@ use lib.ListN.{get_or, drop}
 use lib.Dec.{eqb}
 use borrow.Author.Tests.{ne_eqb}
 use Rattle.list.specs.List.{MaybeList, lent}
+use Rattle.tree.proofs.Lent.{lent-then}
 use Rattle.octets.specs.Bytes.{le, part, guid_at}
-use Rattle.tree.specs.Shown.{change, undo}
-use Rattle.tree.specs.Calls.{list, mark, owners, add, alter}
-use Rattle.script.specs.Record.{record_number, name_in, name_end, names_end, list_in, list_end, flag_ok, flag, parent_named, record_size, form_ok, new_in, record_asks}
+use Rattle.script.specs.Record.{record_number, name_in, name_end, names_end, list_in, list_end, flag_ok, flag, parent_named, record_size, form_ok, new_in}
 
 module _ (t : List ℕ) where
   module _ (h : record_number t ≡ 1) where
@@ -22,10 +21,6 @@ module _ (t : List ℕ) where
     unfolding form_ok
     form-1 = rw h refl
 
-    pub asked-1 : record_asks t ≡ change (add (new_in t))
-    unfolding record_asks
-    asked-1 = rw h refl
-
   module _ (h : record_number t ≡ 2) where
     pub size-2 : record_size t ≡ list_end 2 t
     unfolding record_size
@@ -34,10 +29,6 @@ module _ (t : List ℕ) where
     pub form-2 : form_ok t ≡ true
     unfolding form_ok
     form-2 = rw h refl
-
-    pub asked-2 : record_asks t ≡ change (alter (get_or t 1 0) (list (list_in 2 t)))
-    unfolding record_asks
-    asked-2 = rw h refl
 
   module _ (h : record_number t ≡ 3) where
     pub size-3 : record_size t ≡ 3
@@ -48,10 +39,6 @@ module _ (t : List ℕ) where
     unfolding form_ok
     form-3 = rw h refl
 
-    pub asked-3 : record_asks t ≡ change (alter (get_or t 1 0) (mark (flag 2 t)))
-    unfolding record_asks
-    asked-3 = rw h refl
-
   module _ (h : record_number t ≡ 4) where
     pub size-4 : record_size t ≡ names_end 2 t
     unfolding record_size
@@ -61,10 +48,6 @@ module _ (t : List ℕ) where
     unfolding form_ok
     form-4 = rw h refl
 
-    pub asked-4 : record_asks t ≡ change (alter (get_or t 1 0) (owners (name_in 2 t) (name_in (name_end 2 t) t)))
-    unfolding record_asks
-    asked-4 = rw h refl
-
   module _ (n1 : record_number t ≡ 1 → ⊥) (n2 : record_number t ≡ 2 → ⊥) (n3 : record_number t ≡ 3 → ⊥) (n4 : record_number t ≡ 4 → ⊥) where
     pub size-5 : record_size t ≡ 1
     unfolding record_size
@@ -73,10 +56,6 @@ module _ (t : List ℕ) where
     pub form-5 : form_ok t ≡ eqb (record_number t) 5
     unfolding form_ok
     form-5 = simp (ne_eqb, n1, n2, n3, n4)
-
-    pub asked-5 : record_asks t ≡ undo
-    unfolding record_asks
-    asked-5 = simp (ne_eqb, n1, n2, n3, n4)
 
 -- ---- a record's parts as the calls take them
 
@@ -94,3 +73,5 @@ module _ (t : List ℕ) (p : ℕ) (c m : Bool) (k o g : List ℕ) (l : MaybeList
       → l ≡ list_in (names_end 20 t) t
       → record { parent = p; container = c; mark = m; type = k; owner = o; group = g; list = l } ≡ new_in t
   new_by hp hc hm hk ho hg hl = rw (hp, hc, hm, hk, ho, hg, hl) refl
+
+pub ruleset part_rules = (lent-then, list-by, new_by)

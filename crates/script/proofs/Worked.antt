@@ -12,13 +12,15 @@ use Rattle.octets.specs.Order.{need}
 use Rattle.inherit.proofs.Worked.{system, parent_with}
 use Rattle.tree.specs.Shown.{change, undo, lists_in}
 use Rattle.tree.specs.Model.{list_of, objects_of}
-use Rattle.tree.specs.declared.Answer.TheVariants.{Done, Refused}
+use Rattle.refusal.specs.declared.Refusal.TheVariants as Why
 use Rattle.tree.specs.Formed.{counts_ok, formed}
-use Rattle.tree.specs.Calls.{list, mark, owners, nobody, add, alter, copied}
+use Rattle.tree.specs.Calls.{tells, refusal, list, mark, owners, nobody, add, alter, copied}
 use Rattle.tree.proofs.Worked.{lists, bytes_open, entries_open, lists_open, copies_open, last_open, compute-open}
 use Rattle.tree.proofs.Trees.{model_open, calls-open}
-use Rattle.script.specs.declared.records.Found.TheVariants.{Cut, Bad, Record}
-use Rattle.script.specs.Record.{name_end, list_end, parent_named, record_size, form_ok, record_asks, step_of}
+use Rattle.std.specs.Prelude.{Ok, Err}
+use Rattle.script.specs.declared.records.Asks.TheVariants.{SetList, SetMark, SetOwner, Undo}
+use Rattle.script.specs.declared.records.Flaw.TheVariants.{Cut, Bad}
+use Rattle.script.specs.Record.{name_end, list_end, parent_named, record_size, form_ok, asks_by, request_of, record_asks, step_of}
 use Rattle.script.specs.Fold.{past, on_step, run_by, run_of, on_call, calls_by, calls_of, all_pieces}
 use Rattle.script.specs.Text.{digits, decimal, columns_by, columns, line, lines, heading, listing, bad_line}
 use Rattle.script.specs.Play.{began, script_head_ok, Listed, BadAt, ending_after, fresh, ending_of, text_of, ending_answer, text_to, listing_to}
@@ -28,17 +30,17 @@ use Rattle.script.proofs.Plays.{tree_of, listed-afresh}
 
 -- an empty slice is cut, and so is every start of a record; undo is its number alone; 6 and 0 are unknown
 pub steps-worked :
-    (step_of [] ≡ Cut)
-    × ((step_of (5 ∷ []) ≡ Record 1 5)
-    × ((step_of (6 ∷ []) ≡ Bad)
-    × ((step_of (0 ∷ []) ≡ Bad)
-    × ((step_of (3 ∷ 0 ∷ []) ≡ Cut)
-    × ((step_of (3 ∷ 9 ∷ 1 ∷ 5 ∷ []) ≡ Record 3 3)
-    × ((step_of (3 ∷ 9 ∷ 2 ∷ []) ≡ Bad)
-    × ((step_of (2 ∷ 0 ∷ 0 ∷ 0 ∷ []) ≡ Record 4 2)
-    × ((step_of (2 ∷ 0 ∷ 1 ∷ 0 ∷ []) ≡ Cut)
-    × (step_of (4 ∷ 0 ∷ 0 ∷ 2 ∷ 7 ∷ 7 ∷ 1 ∷ []) ≡ Record 6 4)))))))))
-unfolding le name_end list_end record_size form_ok step_of
+    (step_of [] ≡ Err Cut)
+    × ((step_of (5 ∷ []) ≡ Ok (record { length = 1; asks = Undo }))
+    × ((step_of (6 ∷ []) ≡ Err Bad)
+    × ((step_of (0 ∷ []) ≡ Err Bad)
+    × ((step_of (3 ∷ 0 ∷ []) ≡ Err Cut)
+    × ((step_of (3 ∷ 9 ∷ 1 ∷ 5 ∷ []) ≡ Ok (record { length = 3; asks = SetMark }))
+    × ((step_of (3 ∷ 9 ∷ 2 ∷ []) ≡ Err Bad)
+    × ((step_of (2 ∷ 0 ∷ 0 ∷ 0 ∷ []) ≡ Ok (record { length = 4; asks = SetList }))
+    × ((step_of (2 ∷ 0 ∷ 1 ∷ 0 ∷ []) ≡ Err Cut)
+    × (step_of (4 ∷ 0 ∷ 0 ∷ 2 ∷ 7 ∷ 7 ∷ 1 ∷ []) ≡ Ok (record { length = 6; asks = SetOwner }))))))))))
+unfolding le name_end list_end record_size form_ok asks_by step_of
 steps-worked = (refl, (refl, (refl, (refl, (refl, (refl, (refl, (refl, (refl, refl)))))))))
 
 -- a length of 0 removes the list; FF is no parent, and an object's number like any other
@@ -48,7 +50,7 @@ pub asked-worked :
     × ((record_asks (3 ∷ 1 ∷ 1 ∷ []) ≡ change (alter 1 (mark true)))
     × ((record_asks (4 ∷ 0 ∷ 0 ∷ 2 ∷ 7 ∷ 8 ∷ []) ≡ change (alter 0 (owners [] (7 ∷ 8 ∷ []))))
     × ((record_asks (5 ∷ []) ≡ undo) × ((parent_named 0xFF ≡ nobody) × (parent_named 0xFE ≡ 254))))))
-unfolding le part name_end list_end parent_named record_asks
+unfolding le part name_end list_end parent_named asks_by request_of record_asks
 asked-worked = (refl, (refl, (refl, (refl, (refl, (refl, refl))))))
 
 -- an add, each field in its place
@@ -57,7 +59,7 @@ pub add-worked :
     ≡ change
     (add
     (record { parent = 7; container = false; mark = true; type = (4 ∷ replicate 14 5) ++ (6 ∷ []); owner = 0x21 ∷ []; group = 0x31 ∷ 0x32 ∷ []; list = some (9 ∷ []) }))
-unfolding le part guid_at name_end list_end parent_named record_asks
+unfolding le part guid_at name_end list_end parent_named asks_by request_of record_asks
 add-worked = refl
 
 -- ---- runs: nothing, a bad record, a cut one
@@ -65,7 +67,7 @@ add-worked = refl
 pub runs-worked : (r : List ℕ)
     → (run_of [] r ≡ record { used = 0; bad = false; room = r })
     × ((run_of (6 ∷ []) r ≡ record { used = 0; bad = true; room = r }) × (run_of (3 ∷ 0 ∷ []) r ≡ record { used = 0; bad = false; room = r }))
-unfolding le name_end list_end record_size form_ok step_of on_step run_by run_of
+unfolding le name_end list_end record_size form_ok asks_by step_of on_step run_by run_of
 runs-worked r = (refl, (refl, refl))
 
 pub pieces-worked : all_pieces ((1 ∷ 2 ∷ []) ∷ [] ∷ (3 ∷ []) ∷ []) ≡ 1 ∷ 2 ∷ 3 ∷ []
@@ -81,7 +83,7 @@ pub heads-worked :
     × ((ending_of (0x41 ∷ 0x58 ∷ 0x54 ∷ 1 ∷ 0 ∷ 6 ∷ []) ≡ BadAt 0)
     × ((ending_of (0x41 ∷ 0x58 ∷ 0x53 ∷ 2 ∷ 0 ∷ 6 ∷ []) ≡ BadAt 0)
     × ((ending_of (0x41 ∷ 0x58 ∷ 0x53 ∷ 1 ∷ 1 ∷ 6 ∷ []) ≡ BadAt 0) × (ending_of (0x41 ∷ 0x58 ∷ 0x53 ∷ 1 ∷ []) ≡ BadAt 0))))))
-unfolding le name_end list_end record_size form_ok step_of past on_step run_by run_of script_head_ok ending_after ending_of
+unfolding le name_end list_end record_size form_ok asks_by step_of past on_step run_by run_of script_head_ok ending_after ending_of
 heads-worked = (refl, (refl, (refl, (refl, (refl, (refl, refl))))))
 
 pub began-worked :
@@ -107,9 +109,9 @@ texts-worked = (refl, refl)
 
 -- in a lent buffer: the text on its front, its length, whether it is the listing, how many objects; 8 where it doesn't fit; 13 where there is no tree
 pub answers-worked :
-    (text_to (BadAt 0) (replicate 10 7) ≡ record { answer = Done 9 false 0; bytes = 98 ∷ 97 ∷ 100 ∷ 32 ∷ 97 ∷ 116 ∷ 32 ∷ 48 ∷ 10 ∷ 7 ∷ [] })
-    × ((text_to (BadAt 0) (replicate 8 7) ≡ record { answer = Refused 8 0 0; bytes = replicate 8 7 })
-    × ((ending_answer (Listed (none ∷ [])) ≡ Done 19 true 1) × (listing_to [] (7 ∷ []) ≡ record { answer = Refused 13 0 0; bytes = 7 ∷ [] })))
+    (text_to (BadAt 0) (replicate 10 7) ≡ record { answer = tells 9 false 0; bytes = 98 ∷ 97 ∷ 100 ∷ 32 ∷ 97 ∷ 116 ∷ 32 ∷ 48 ∷ 10 ∷ 7 ∷ [] })
+    × ((text_to (BadAt 0) (replicate 8 7) ≡ record { answer = refusal Why.Room 0 0; bytes = replicate 8 7 })
+    × ((ending_answer (Listed (none ∷ [])) ≡ tells 19 true 1) × (listing_to [] (7 ∷ []) ≡ record { answer = refusal Why.Tree 0 0; bytes = 7 ∷ [] })))
 unfolding need formed counts_ok digits decimal columns_by columns line lines heading listing bad_line text_of ending_answer copied text_to listing_to
 answers-worked = (refl, (refl, (refl, refl)))
 
@@ -132,12 +134,12 @@ document = 0x41 ∷ 0x58 ∷ 0x53 ∷ 1 ∷ 0 ∷ records
 
 -- its two records are whole, and no byte is left
 whole : ending_of document ≡ Listed (lists_in (run_of records fresh).room)
-unfolding le flatten name_end list_end record_size form_ok step_of past on_step run_by run_of script_head_ok ending_after ending_of
+unfolding le flatten name_end list_end record_size form_ok asks_by step_of past on_step run_by run_of script_head_ok ending_after ending_of
 whole = refl
 
 -- what its records open, beside what a tree does
 records-open : Unit {0}
-unfolding name_end list_end parent_named record_size form_ok record_asks step_of on_call calls_by calls_of calls-open model_open
+unfolding name_end list_end parent_named record_size form_ok asks_by request_of record_asks step_of on_call calls_by calls_of calls-open model_open
 records-open = tt
 
 -- what the model says of its two records: two objects, and their lists

@@ -1,8 +1,9 @@
 -- Records one after another, from the front of t, in a room. What a run has made of them is the fold of `step_of`.
-use Rattle.std.specs.Prelude.{ℕ, zero, suc, ◌+◌, List, [], ◌∷◌, ◌++◌, Bool, true, false, cond, length, take, drop}
+use Rattle.std.specs.Prelude.{ℕ, zero, suc, ◌+◌, List, [], ◌∷◌, ◌++◌, Bool, true, false, cond, length, take, drop, Result, Ok, Err}
 use Rattle.tree.specs.Shown.{Request, call_on}
-use Rattle.script.specs.declared.records.Found.{Found}
-use Rattle.script.specs.declared.records.Found.TheVariants.{Cut, Bad, Record}
+use Rattle.script.specs.declared.records.Flaw.{Flaw}
+use Rattle.script.specs.declared.records.Flaw.TheVariants.{Cut, Bad}
+use Rattle.script.specs.declared.records.Record.{Record}
 use Rattle.script.specs.Record.{record_asks, step_of}
 
 -- how many bytes were whole records, whether a bad record comes next, and the room as the records leave it
@@ -20,10 +21,10 @@ unfoldable pub carried : ℕ → List ℕ → List ℕ → List ℕ
 carried n t r = (call_on (record_asks (take n t)) r).bytes
 
 -- a run stops at a record that is cut or bad, and goes on after a whole one
-unfoldable pub on_step : Found → List ℕ → (ℕ → Run) → Run
-on_step Cut r next = record { used = 0; bad = false; room = r }
-on_step Bad r next = record { used = 0; bad = true; room = r }
-on_step (Record n k) r next = past n (next n)
+unfoldable pub on_step : Result Record Flaw → List ℕ → (ℕ → Run) → Run
+on_step (Err Cut) r next = record { used = 0; bad = false; room = r }
+on_step (Err Bad) r next = record { used = 0; bad = true; room = r }
+on_step (Ok a) r next = past a.length (next a.length)
 
 -- at most `more` records
 unfoldable pub run_by : ℕ → List ℕ → List ℕ → Run
@@ -36,10 +37,9 @@ run_of t r = run_by (suc (length t)) t r
 
 -- ---- what a script asks: the calls of its whole records, the latest first, in front of the calls qs that came earlier
 
-unfoldable pub on_call : Found → List Request → (ℕ → List Request) → List Request
-on_call Cut qs next = qs
-on_call Bad qs next = qs
-on_call (Record n k) qs next = next n
+unfoldable pub on_call : Result Record Flaw → List Request → (ℕ → List Request) → List Request
+on_call (Err _) qs next = qs
+on_call (Ok a) qs next = next a.length
 
 unfoldable pub calls_by : ℕ → List ℕ → List Request → List Request
 calls_by zero t qs = qs

@@ -1,3 +1,2 @@
 -- What only private functions' contracts cite: no public promise rests on it.
-pub mod Runs
 pub mod Laying

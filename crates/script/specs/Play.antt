@@ -6,11 +6,10 @@ use Rattle.octets.specs.Bytes.{le}
 use Rattle.inherit.specs.declared.Mapping.{Mapping}
 use Rattle.tree.specs.Model.{Settings}
 use Rattle.tree.specs.Shown.{lists_in}
-use Rattle.tree.specs.declared.Answer.{Answer}
-use Rattle.tree.specs.declared.Answer.TheVariants.{Done}
+use Rattle.refusal.specs.declared.Refusal.TheVariants as Why
 use Rattle.tree.specs.Formed.{formed}
 use Rattle.octets.specs.Order.{need}
-use Rattle.tree.specs.Calls.{Outcome, copied, refuse, start_to}
+use Rattle.tree.specs.Calls.{Answer, tells, Outcome, copied, refuse, start_to}
 use Rattle.script.specs.Fold.{Run, run_of, Stage}
 use Rattle.script.specs.Text.{listing, bad_line}
 
@@ -61,8 +60,8 @@ text_of (BadAt n) = bad_line n
 
 -- its length, whether it is the listing, and how many objects are in it
 unfoldable pub ending_answer : Ending → Answer
-ending_answer (Listed os) = Done (length (listing os)) true (length os)
-ending_answer (BadAt n) = Done (length (bad_line n)) false 0
+ending_answer (Listed os) = tells (length (listing os)) true (length os)
+ending_answer (BadAt n) = tells (length (bad_line n)) false 0
 
 unfoldable pub text_to : Ending → List ℕ → Outcome
 text_to e out = copied (ending_answer e) (text_of e) out
@@ -71,7 +70,7 @@ text_to e out = copied (ending_answer e) (text_of e) out
 
 -- a room's listing: 13, 8
 unfoldable pub listing_to : List ℕ → List ℕ → Outcome
-listing_to r out = need (formed r) (refuse 13 0 0 out) (text_to (Listed (lists_in r)) out)
+listing_to r out = need (formed r) (refuse Why.Tree 0 0 out) (text_to (Listed (lists_in r)) out)
 
 -- a whole script: 8
 unfoldable pub play_to : List ℕ → List ℕ → Outcome

@@ -1,11 +1,14 @@
 -- The records of a script (RULES 6.2, 6.3). A record is its bytes from its number on; bytes that are not there count as 0.
-use Rattle.std.specs.Prelude.{ℕ, ◌+◌, List, Bool, true, cond, not, ◌&&◌, length, get_or, drop, eqb, leb}
+use Rattle.std.specs.Prelude.{ℕ, ◌+◌, List, Bool, true, cond, not, ◌&&◌, length, get_or, drop, eqb, leb, Result, Ok, Err}
 use Rattle.list.specs.List.{MaybeList, lent}
 use Rattle.octets.specs.Bytes.{le, part, guid_at}
 use Rattle.tree.specs.Shown.{Request, change, undo}
 use Rattle.tree.specs.Calls.{list, mark, owners, New, nobody, add, alter}
-use Rattle.script.specs.declared.records.Found.{Found}
-use Rattle.script.specs.declared.records.Found.TheVariants.{Cut, Bad, Record}
+use Rattle.script.specs.declared.records.Asks.{Asks}
+use Rattle.script.specs.declared.records.Asks.TheVariants.{Add, SetList, SetMark, SetOwner, Undo}
+use Rattle.script.specs.declared.records.Flaw.{Flaw}
+use Rattle.script.specs.declared.records.Flaw.TheVariants.{Cut, Bad}
+use Rattle.script.specs.declared.records.Record.{Record}
 
 -- ---- parts of a record
 
@@ -80,15 +83,30 @@ new_in t =
       list = list_in (names_end 20 t) t;
     }
 
--- what a whole record of good form asks of a tree: the number that is left is 5, undo
-unfoldable pub record_asks : List ℕ → Request
-record_asks t =
-    cond (eqb (record_number t) 1) (change (add (new_in t)))
-    (cond (eqb (record_number t) 2) (change (alter (get_or t 1 0) (list (list_in 2 t))))
-    (cond (eqb (record_number t) 3) (change (alter (get_or t 1 0) (mark (flag 2 t))))
-    (cond (eqb (record_number t) 4) (change (alter (get_or t 1 0) (owners (name_in 2 t) (name_in (name_end 2 t) t))))
-    undo)))
+-- which record a number means: of good form, the number that is left is 5
+unfoldable pub asks_by : ℕ → Asks
+asks_by n =
+    cond (eqb n 1) Add
+    (cond (eqb n 2) SetList
+    (cond (eqb n 3) SetMark
+    (cond (eqb n 4) SetOwner
+    Undo)))
 
--- the record at the front of t: cut where bytes of it are missing, bad by its form, else its length and its number
-unfoldable pub step_of : List ℕ → Found
-step_of t = cond (leb (record_size t) (length t)) (cond (form_ok t) (Record (record_size t) (record_number t)) Bad) Cut
+-- what each asks of a tree
+unfoldable pub request_of : Asks → List ℕ → Request
+request_of Add t = change (add (new_in t))
+request_of SetList t = change (alter (get_or t 1 0) (list (list_in 2 t)))
+request_of SetMark t = change (alter (get_or t 1 0) (mark (flag 2 t)))
+request_of SetOwner t = change (alter (get_or t 1 0) (owners (name_in 2 t) (name_in (name_end 2 t) t)))
+request_of Undo t = undo
+
+-- what a whole record of good form asks of a tree
+unfoldable pub record_asks : List ℕ → Request
+record_asks t = request_of (asks_by (record_number t)) t
+
+-- the record at the front of t: cut where bytes of it are missing, bad by its form, else its length and what it asks
+unfoldable pub step_of : List ℕ → Result Record Flaw
+step_of t =
+    cond (leb (record_size t) (length t))
+    (cond (form_ok t) (Ok (record { length = record_size t; asks = asks_by (record_number t) })) (Err Bad))
+    (Err Cut)

@@ -6,14 +6,15 @@ ghost use Rattle.tree.specs.Calls.{Promised};
 ghost use Rattle.script.specs.Play.{script_head_ok, begin_to, play_to};
 
 use inherit::Mapping;
-use octets::{byte_in, half_in};
-use tree::Answer;
+use octets::half_in;
+use refusal::Fault;
+use tree::Done;
 
 mod records;
 mod runs;
 mod texts;
 
-pub use records::{Found, step};
+pub use records::{Asks, Flaw, Record, step};
 pub use runs::{Run, advance, feed};
 pub use texts::{bad_at, listing};
 
@@ -21,26 +22,16 @@ pub use texts::{bad_at, listing};
 pub const ROOM: usize = 55400;
 
 // The script's head: `AXS` and the 16-bit version 1.
+#[tactic(auto, unfolding(crate::specs::Play::script_head_ok))]
 pub fn head_ok(script: &[u8]) -> bool
     ensures { result ≡ script_head_ok script.now }
 {
-    if script.len() < 5 {
-        return false;
-    }
-    if byte_in(script, 0) != 0x41 {
-        return false;
-    }
-    if byte_in(script, 1) != 0x58 {
-        return false;
-    }
-    if byte_in(script, 2) != 0x53 {
-        return false;
-    }
-    half_in(script, 3) == 1
+    5 <= script.len() && script.starts_with(b"AXS") && half_in(script, 3) == 1
 }
 
 // Starts a script's tree: limits 16 and 16, rule 2, its mapping and no default (RULES 6.4).
-pub fn begin(room: &mut [u8]) -> Answer
+#[tactic(auto, unfolding(crate::specs::Play::begin_to))]
+pub fn begin(room: &mut [u8]) -> Result<Done, Fault>
     ensures { Promised (begin_to room.old) result room.new }
 {
     tree::start(
@@ -54,20 +45,19 @@ pub fn begin(room: &mut [u8]) -> Answer
             execute: 0x001200A0,
             all: 0x001F01FF,
         },
-        false,
-        &[],
+        None,
     )
 }
 
 // Plays a whole script in a room of 55,400 bytes, whatever it held.
-fn play_in(room: &mut [u8], script: &[u8], out: &mut [u8]) -> Answer
+fn play_in(room: &mut [u8], script: &[u8], out: &mut [u8]) -> Result<Done, Fault>
     requires { length room.old ≡ 55400 }
     ensures { Promised (play_to script.now out.old) result out.new }
 {
     if !head_ok(script) {
         return bad_at(0, out);
     }
-    begin(room);
+    let _ = begin(room);
     let run = feed(room, &script[5..]);
     let end = 5 + run.used;
     if end < script.len() {
@@ -77,7 +67,7 @@ fn play_in(room: &mut [u8], script: &[u8], out: &mut [u8]) -> Answer
 }
 
 // Plays a whole script in a room of its own and writes the program's text.
-pub fn play(script: &[u8], out: &mut [u8]) -> Answer
+pub fn play(script: &[u8], out: &mut [u8]) -> Result<Done, Fault>
     ensures { Promised (play_to script.now out.old) result out.new }
 {
     let mut room = [0u8; ROOM];

@@ -2,8 +2,6 @@
 // line that should hold it then differs from the stored one.
 #![tactic(auto)]
 
-ghost use Rattle.std.specs.Prelude.{◌<◌};
-
 use std::io::{Print, Read, Stdin, Stdout};
 
 // What a byte of `out` holds before a call.
@@ -15,35 +13,26 @@ const HASH_PRIME: u64 = 16777619;
 
 const HASH_BASE: u64 = 4294967296;
 
-// A byte as a 32-bit number.
-pub fn wide(x: u8) -> u32
-    ensures { result < 256 }
-{
-    x as u32
-}
-
-// Fills the bytes from standard input; false where it ends before.
-pub fn read(mut from: Stdin, bytes: &mut [u8]) -> bool {
-    from.read_exact(bytes).is_ok()
+// Fills the bytes from standard input; none where it ends before.
+pub fn read(mut from: Stdin, bytes: &mut [u8]) -> Option<()> {
+    from.read_exact(bytes).ok()
 }
 
 // Fills what is lent to a call.
 pub fn prepare(out: &mut [u8]) {
-    for i in 0..out.len() {
-        out[i] = BEFORE;
-    }
+    out.fill(BEFORE);
 }
 
 // The product's lowest 32 bits.
 fn times_prime(x: u32) -> u32 {
-    (x as u64 * HASH_PRIME % HASH_BASE) as u32
+    (u64::from(x) * HASH_PRIME % HASH_BASE) as u32
 }
 
 // FNV-1a in 32 bits.
 fn hash(bytes: &[u8]) -> u32 {
     let mut h = HASH_START;
     for x in bytes {
-        h = times_prime(h ^ wide(*x));
+        h = times_prime(h ^ u32::from(*x));
     }
     h
 }
@@ -73,43 +62,34 @@ pub fn print_hash(to: Stdout, bytes: &[u8]) {
     let _ = print!(to; "{h:08x}");
 }
 
-fn print_byte(to: Stdout, x: u8) {
-    let _ = print!(to; "{x:02x}");
-}
-
 // Two digits for each byte.
 pub fn print_bytes(to: Stdout, bytes: &[u8]) {
     for x in bytes {
-        print_byte(to, *x);
-    }
-}
-
-// The values, with a space between them.
-fn print_each(to: Stdout, values: &[u32]) {
-    for i in 0..values.len() {
-        if 0 < i {
-            print_space(to);
-        }
-        print_word(to, values[i]);
+        let _ = print!(to; "{x:02x}");
     }
 }
 
 // The answer's first n values, with a space between them; nothing where n is over 8.
 pub fn print_values(to: Stdout, answer: [u32; 8], n: usize) {
-    if n <= 8 {
-        print_each(to, &answer[0..n]);
+    let Some(values) = answer.get(..n) else {
+        return;
+    };
+    for (i, value) in values.iter().enumerate() {
+        if 0 < i {
+            print_space(to);
+        }
+        print_word(to, *value);
     }
 }
 
 // The call's byte and the eight values, with a space between them.
 pub fn print_answer(to: Stdout, call: u8, answer: [u32; 8]) {
-    print_word(to, wide(call));
+    print_word(to, u32::from(call));
     print_space(to);
     print_values(to, answer, 8);
 }
 
 // The input holds no case.
-pub fn bad(to: Stdout) -> bool {
+pub fn bad(to: Stdout) {
     print_text(to, b"bad\n");
-    false
 }

@@ -3,6 +3,11 @@ use mathlib.Core.Path.{◌≡◌, refl, sym, ap, ◌∙◌}
 use mathlib.Core.Bool.{Bool, true, false, cond}
 use mathlib.Core.List.{List, [], ◌∷◌, ◌++◌, append_assoc}
 use mathlib.Core.Option.{Option, none, some}
+use Rattle.std.specs.Prelude.{Result, Ok, Err, Some, None}
+use Rattle.octets.specs.Absent.{unless_zero}
+use Rattle.octets.proofs.Absent.{some-unless_zero, none-unless_zero}
+use Rattle.std.specs.Result.{IsErrAnd}
+use Rattle.std.proofs.lemmas.Result.{err_from_is_err_and}
 use Prim.Native.Nat.{ℕ, ◌+◌, ◌*◌, ◌≤◌, ◌<◌}
 use native.Mathlib.Nat.{zero-add}
 use native.Mathlib.Omega.{arith}
@@ -12,22 +17,23 @@ use borrow.Author.Tests.{ltb-true, leb-true, le-leb, lt-leb, ne_eqb}
 use Rattle.octets.specs.Bytes.{part, put_at, front}
 use Rattle.list.specs.Entry.{access}
 use Rattle.list.specs.List.{check_of, MaybeList}
-use Rattle.list.specs.declared.lists.Reading.{Reading}
-use Rattle.list.specs.declared.lists.Reading.TheVariants.{Done as Read, Refused as Unread}
-use Rattle.list.proofs.Answers.{ListNumber, list-number}
+use Rattle.list.specs.declared.readings.Read.{Read}
 use Rattle.octets.proofs.Places.{length_part}
 use Rattle.octets.proofs.Tests.{both_true, le-or, off}
-use Rattle.inherit.specs.Compute.{rule_ok}
+use Rattle.inherit.specs.Compute.{ordinary, rule_ok}
+use Rattle.refusal.specs.Faults.{plain}
+use Rattle.refusal.specs.declared.Fault.{Fault}
+use Rattle.refusal.specs.declared.Refusal.{Refusal}
+use Rattle.refusal.specs.declared.Refusal.TheVariants as Why
 use Rattle.tree.specs.Model.{Settings, short_if, limits_ok}
-use Rattle.tree.specs.declared.Answer.{Answer}
-use Rattle.tree.specs.Held.{is_done, id_in, owner_of, group_of}
+use Rattle.tree.specs.Held.{id_in, owner_of, group_of}
 use Rattle.tree.specs.Room.{object_limit, objects, own_data, room_for, room_of, settings_for, empty_room}
 use Rattle.tree.specs.Formed.{placed_in, formed}
 use Rattle.tree.specs.Inner.Heads.{Head}
 use Rattle.octets.specs.Order.{need}
-use Rattle.tree.specs.Calls.{Outcome, refuse, on_reading_to, readable_to, on_object, told_as, start_ok, list_bytes, copied, data_of}
-use Rattle.tree.specs.Inner.Faults.{object_fault, add_fault, fault_by, fault_of}
-use Rattle.tree.proofs.Replay.{reads}
+use Rattle.tree.specs.Calls.{Answer, Outcome, Promised, refuse, on_reading_to, readable_to, on_object, told_as, start_ok, list_bytes, copied, data_of}
+use Rattle.tree.specs.Inner.Faults.{test_object, test_add, test_reading, test_list, test_owners, test_short}
+use Rattle.tree.proofs.Numbers.{promised}
 use Rattle.tree.proofs.Tested.{head-says, formed-parts}
 use Rattle.tree.proofs.Lays.{Written, write-one, write-next, write-more, length-settings}
 
@@ -37,89 +43,119 @@ use Rattle.tree.proofs.Lays.{Written, write-one, write-next, write-more, length-
 pub settle : {o p : Outcome} {a : Answer} {b : List ℕ} → o ≡ p → a ≡ p.answer → b ≡ p.bytes → (a ≡ o.answer) × (b ≡ o.bytes)
 settle e f g = (f ∙ sym (ap (λ (x : Outcome). x.answer) e), g ∙ sym (ap (λ (x : Outcome). x.bytes) e))
 
-pub need-yes : {b : Bool} (k : ℕ) (r : List ℕ) (rest : Outcome) → b ≡ true → need b (refuse k 0 0 r) rest ≡ rest
+pub need-yes : {b : Bool} (k : Refusal) (r : List ℕ) (rest : Outcome) → b ≡ true → need b (refuse k 0 0 r) rest ≡ rest
 unfolding need
 need-yes k r rest e = rw e
 
-pub need-no : {b : Bool} (k : ℕ) (r : List ℕ) (rest : Outcome) → b ≡ false → need b (refuse k 0 0 r) rest ≡ refuse k 0 0 r
+pub need-no : {b : Bool} (k : Refusal) (r : List ℕ) (rest : Outcome) → b ≡ false → need b (refuse k 0 0 r) rest ≡ refuse k 0 0 r
 unfolding need
 need-no k r rest e = rw e
 
 pub formed-head : (r : List ℕ) → formed r ≡ true → Head r
 formed-head r e = head-says r (formed-parts r e).head_ok
 
+-- ---- the tests of what a call is given, as the code makes them
+
+-- a test is passed, and the call goes on; or it refuses, and the bytes stay
+unfoldable pub after_test : Result Unit Fault → List ℕ → Outcome → Outcome
+after_test (Ok u) r rest = rest
+after_test (Err f) r rest = record { answer = Err f; bytes = r }
+
+-- a test whose refusal concerns no list
+unfoldable pub plainly : Result Unit Refusal → Result Unit Fault
+plainly (Ok u) = Ok u
+plainly (Err k) = Err (plain k)
+
+pub goes_on : {o : Outcome} {t : Result Unit Fault} (r : List ℕ) (rest : Outcome) → o ≡ after_test t r rest → t ≡ Ok tt → o ≡ rest
+unfolding after_test
+goes_on r rest e h = e ∙ rw h refl
+
+pub stops_at : {o : Outcome} {t : Result Unit Fault} {f : Fault} {a : Answer} (r : List ℕ) (rest : Outcome) → o ≡ after_test t r rest → t ≡ Err f → a ≡ Err f → Promised o a r
+unfolding after_test
+stops_at {o} {f = f} r rest e h q = promised o (settle {p = record { answer = Err f; bytes = r }} (e ∙ rw h refl) q refl)
+
+-- what a `?` answers: the fault of a refusal, or the fault as it was
+pub exits_by : {x : Answer} {f : Fault} → IsErrAnd x (λ g. g ≡ f) → x ≡ Err f
+exits_by {x} h = let e = err_from_is_err_and x h in e.1 ∙ ap Err e.2
+
+-- passed, or refused, from the result that the code has
+pub passes : {t x : Result Unit Refusal} → x ≡ t → x ≡ Ok tt → plainly t ≡ Ok tt
+unfolding plainly
+passes e h = rw (sym e ∙ h) refl
+
+pub refuses : {t x : Result Unit Refusal} {k : Refusal} → x ≡ t → x ≡ Err k → plainly t ≡ Err (plain k)
+unfolding plainly
+refuses e h = rw (sym e ∙ h) refl
+
+one_test : (b : Bool) (k : Refusal) (t : Result Unit Refusal) (r : List ℕ) (o rest : Outcome) → o ≡ after_test (plainly t) r rest
+    → need b (refuse k 0 0 r) o ≡ after_test (plainly (need b (Err k) t)) r rest
+unfolding need plainly after_test
+one_test true k t r o rest h = h
+one_test false k t r o rest h = refl
+
+-- what a passed test says
+need-passed : (b : Bool) (k : Refusal) (t : Result Unit Refusal) → need b (Err k) t ≡ Ok tt → (b ≡ true) × (t ≡ Ok tt)
+unfolding need
+need-passed true k t h = (refl, h)
+need-passed false k t h = let z : ◌≡◌ {A = ℕ} 0 1 = cc in absurd (omega arith)
+
 -- ---- a list that is given
 
-on-reading : (d : Reading) (which : ℕ) (r : List ℕ) (rest : Outcome) → ListNumber d → ((fault_by d).number ≡ 0 → on_reading_to d which r rest ≡ rest)
-    × (((fault_by d).number ≡ 0 → ⊥) → on_reading_to d which r rest ≡ refuse (fault_by d).number which (fault_by d).offset r)
-unfolding fault_by on_reading_to
-on-reading (Read l n x) which r rest k = (λ h. refl, λ h. absurd (h refl))
-on-reading (Unread j at) which r rest k = (λ h. absurd (omega (arith, k.0)), λ h. refl)
+reading-is : (d : Result Read Fault) (which : ℕ) (r : List ℕ) (rest : Outcome) → on_reading_to d which r rest ≡ after_test (test_reading d which) r rest
+unfolding on_reading_to test_reading after_test
+reading-is (Ok read) which r rest = refl
+reading-is (Err fault) which r rest = refl
 
-pub readable-good : (o : MaybeList) (which : ℕ) (r : List ℕ) (rest : Outcome) → (fault_of o).number ≡ 0 → readable_to o which r rest ≡ rest
-unfolding fault_of readable_to
-readable-good none which r rest h = refl
-readable-good (some s) which r rest h = (on-reading (check_of access s) which r rest (list-number access s)).0 h
+pub readable-is : (o : MaybeList) (which : ℕ) (r : List ℕ) (rest : Outcome) → readable_to o which r rest ≡ after_test (test_list o which) r rest
+unfolding readable_to test_list after_test
+readable-is none which r rest = refl
+readable-is (some s) which r rest = reading-is (check_of access s) which r rest
 
-pub readable-bad : (o : MaybeList) (which : ℕ) (r : List ℕ) (rest : Outcome) → ((fault_of o).number ≡ 0 → ⊥)
-    → readable_to o which r rest ≡ refuse (fault_of o).number which (fault_of o).offset r
-unfolding fault_of readable_to
-readable-bad none which r rest h = absurd (h refl)
-readable-bad (some s) which r rest h = (on-reading (check_of access s) which r rest (list-number access s)).1 h
+pub short-is : (o : MaybeList) (r : List ℕ) (rest : Outcome) → need (short_if o) (refuse Why.Room 0 0 r) rest ≡ after_test (plainly (test_short o)) r rest
+unfolding test_short after_test plainly
+short-is o r rest = one_test (short_if o) Why.Room (Ok tt) r rest rest refl
 
-reading-done : (d : Reading) → ListNumber d → (fault_by d).number ≡ 0 → is_done d ≡ true
-unfolding fault_by
-reading-done (Read l n x) k h = refl
-reading-done (Unread j at) k h = absurd (omega (arith, k.0))
+pub short-passed : (o : MaybeList) → test_short o ≡ Ok tt → short_if o ≡ true
+unfolding test_short
+short-passed o h = (need-passed (short_if o) Why.Room (Ok tt) h).0
 
-pub faults-reads : (o : MaybeList) → (fault_of o).number ≡ 0 → reads o ≡ true
-unfolding fault_of reads
-faults-reads none h = refl
-faults-reads (some s) h = reading-done (check_of access s) (list-number access s) h
+-- ---- an owner and a group
+
+module _ (o g : List ℕ) where
+  pub owners-are : (r : List ℕ) (rest : Outcome) → need (ordinary o) (refuse Why.Identity 0 0 r) (need (ordinary g) (refuse Why.Identity 0 0 r) rest)
+      ≡ after_test (plainly (test_owners o g)) r rest
+  unfolding test_owners after_test plainly
+  owners-are r rest =
+      one_test (ordinary o) Why.Identity (need (ordinary g) (Err Why.Identity) (Ok tt)) r _ rest
+      (one_test (ordinary g) Why.Identity (Ok tt) r rest rest refl)
+
+  pub owners-passed : test_owners o g ≡ Ok tt → (ordinary o ≡ true) × (ordinary g ≡ true)
+  unfolding test_owners
+  owners-passed h =
+      let p = need-passed (ordinary o) Why.Identity (need (ordinary g) (Err Why.Identity) (Ok tt)) h in
+      (p.0, (need-passed (ordinary g) Why.Identity (Ok tt) p.1).0)
 
 -- ---- the calls that name an object
 
-abbrev by_two : Bool → Bool → ℕ
-by_two a b = cond a (cond b 0 9) 13
-
-two_good : (a b : Bool) (x : List ℕ) (rest : Outcome) → by_two a b ≡ 0 → need a (refuse 13 0 0 x) (need b (refuse 9 0 0 x) rest) ≡ rest
-unfolding need
-two_good true true x rest h = refl
-two_good true false x rest h = absurd (omega arith)
-two_good false b x rest h = absurd (omega arith)
-
-two-bad : (a b : Bool) (x : List ℕ) (rest : Outcome) → (by_two a b ≡ 0 → ⊥) → need a (refuse 13 0 0 x) (need b (refuse 9 0 0 x) rest) ≡ refuse (by_two a b) 0 0 x
-unfolding need
-two-bad true true x rest h = absurd (h refl)
-two-bad true false x rest h = refl
-two-bad false b x rest h = refl
-
-two-true : (a b : Bool) → by_two a b ≡ 0 → (a ≡ true) × (b ≡ true)
-two-true true true h = (refl, refl)
-two-true true false h = absurd (omega arith)
-two-true false b h = absurd (omega arith)
-
 module _ (r : List ℕ) (i : ℕ) where
-  pub on-object-good : (x : List ℕ) (rest : Outcome) → object_fault r i ≡ 0 → on_object r i x rest ≡ rest
-  unfolding object_fault on_object
-  on-object-good x rest h = two_good (formed r) (ltb i (objects r)) x rest h
+  pub on-object-is : (x : List ℕ) (rest : Outcome) → on_object r i x rest ≡ after_test (plainly (test_object r i)) x rest
+  unfolding test_object on_object after_test plainly
+  on-object-is x rest =
+      one_test (formed r) Why.Tree (need (ltb i (objects r)) (Err Why.Object) (Ok tt)) x _ rest
+      (one_test (ltb i (objects r)) Why.Object (Ok tt) x rest rest refl)
 
-  pub on-object-bad : (x : List ℕ) (rest : Outcome) → (object_fault r i ≡ 0 → ⊥) → on_object r i x rest ≡ refuse (object_fault r i) 0 0 x
-  unfolding object_fault on_object
-  on-object-bad x rest h = two-bad (formed r) (ltb i (objects r)) x rest h
-
-  pub object-facts : object_fault r i ≡ 0 → (formed r ≡ true) × (i < objects r)
-  unfolding object_fault
+  pub object-facts : test_object r i ≡ Ok tt → (formed r ≡ true) × (i < objects r)
+  unfolding test_object
   object-facts h =
-      let p = two-true (formed r) (ltb i (objects r)) h in
-      (p.0, ltb-true i (objects r) p.1)
+      let p = need-passed (formed r) Why.Tree (need (ltb i (objects r)) (Err Why.Object) (Ok tt)) h in
+      (p.0, ltb-true i (objects r) (need-passed (ltb i (objects r)) Why.Object (Ok tt) p.1).0)
 
-  pub object-small : object_fault r i ≡ 0 → i < 256
+  pub object-small : test_object r i ≡ Ok tt → i < 256
   object-small h =
       let f = object-facts h in
       omega (arith, formed-head r f.0)
 
-  pub own-long : object_fault r i ≡ 0 → length (own_data i r) ≡ 1184
+  pub own-long : test_object r i ≡ Ok tt → length (own_data i r) ≡ 1184
   unfolding own_data
   own-long h =
       let f = object-facts h in
@@ -135,63 +171,47 @@ pub record Addable (r : List ℕ) (p : Option ℕ) : Type 0 where
   pub below : objects r < object_limit r
   pub limit-64 : object_limit r ≤ 64
 
-abbrev by_three : Bool → Bool → Bool → ℕ
-by_three a b d = cond a (cond b (cond d 0 10) 9) 13
-
-three-good : (a b d : Bool) (x : List ℕ) (rest : Outcome) → by_three a b d ≡ 0 → need a (refuse 13 0 0 x) (need b (refuse 9 0 0 x) (need d (refuse 10 0 0 x) rest)) ≡ rest
-unfolding need
-three-good true true true x rest h = refl
-three-good true true false x rest h = absurd (omega arith)
-three-good true false d x rest h = absurd (omega arith)
-three-good false b d x rest h = absurd (omega arith)
-
-three-bad : (a b d : Bool) (x : List ℕ) (rest : Outcome) → (by_three a b d ≡ 0 → ⊥) → need a (refuse 13 0 0 x) (need b (refuse 9 0 0 x) (need d (refuse 10 0 0 x) rest)) ≡ refuse (by_three a b d) 0 0 x
-unfolding need
-three-bad true true true x rest h = absurd (h refl)
-three-bad true true false x rest h = refl
-three-bad true false d x rest h = refl
-three-bad false b d x rest h = refl
-
-three-true : (a b d : Bool) → by_three a b d ≡ 0 → (a ≡ true) × ((b ≡ true) × (d ≡ true))
-three-true true true true h = (refl, (refl, refl))
-three-true true true false h = absurd (omega arith)
-three-true true false d h = absurd (omega arith)
-three-true false b d h = absurd (omega arith)
-
 module _ (r : List ℕ) (p : Option ℕ) where
-  pub add-good : (x : List ℕ) (rest : Outcome) → add_fault r p ≡ 0
-      → need (formed r) (refuse 13 0 0 x) (need (placed_in (λ j. own_data j r) (objects r) p) (refuse 9 0 0 x) (need (ltb (objects r) (object_limit r)) (refuse 10 0 0 x) rest)) ≡ rest
-  unfolding add_fault
-  add-good x rest h = three-good (formed r) (placed_in (λ j. own_data j r) (objects r) p) (ltb (objects r) (object_limit r)) x rest h
+  abbrev is_placed : Bool
+  is_placed = placed_in (λ j. own_data j r) (objects r) p
 
-  pub add-bad : (x : List ℕ) (rest : Outcome) → (add_fault r p ≡ 0 → ⊥)
-      → need (formed r) (refuse 13 0 0 x) (need (placed_in (λ j. own_data j r) (objects r) p) (refuse 9 0 0 x) (need (ltb (objects r) (object_limit r)) (refuse 10 0 0 x) rest)) ≡ refuse (add_fault r p) 0 0 x
-  unfolding add_fault
-  add-bad x rest h = three-bad (formed r) (placed_in (λ j. own_data j r) (objects r) p) (ltb (objects r) (object_limit r)) x rest h
+  abbrev has_place : Bool
+  has_place = ltb (objects r) (object_limit r)
 
-  pub add-facts : add_fault r p ≡ 0 → Addable r p
-  unfolding add_fault
+  pub add-is : (x : List ℕ) (rest : Outcome)
+      → need (formed r) (refuse Why.Tree 0 0 x) (need is_placed (refuse Why.Object 0 0 x) (need has_place (refuse Why.Full 0 0 x) rest))
+      ≡ after_test (plainly (test_add r p)) x rest
+  unfolding test_add after_test plainly
+  add-is x rest =
+      one_test (formed r) Why.Tree (need is_placed (Err Why.Object) (need has_place (Err Why.Full) (Ok tt))) x _ rest
+      (one_test is_placed Why.Object (need has_place (Err Why.Full) (Ok tt)) x _ rest
+      (one_test has_place Why.Full (Ok tt) x rest rest refl))
+
+  pub add-facts : test_add r p ≡ Ok tt → Addable r p
+  unfolding test_add
   add-facts h =
-      let q = three-true (formed r) (placed_in (λ j. own_data j r) (objects r) p) (ltb (objects r) (object_limit r)) h in
-      record { is-formed = q.0; is-placed = q.1.0; below = ltb-true (objects r) (object_limit r) q.1.1; limit-64 = (formed-head r q.0).limit-64 }
+      let a = need-passed (formed r) Why.Tree (need is_placed (Err Why.Object) (need has_place (Err Why.Full) (Ok tt))) h in
+      let b = need-passed is_placed Why.Object (need has_place (Err Why.Full) (Ok tt)) a.1 in
+      let c = need-passed has_place Why.Full (Ok tt) b.1 in
+      record { is-formed = a.0; is-placed = b.0; below = ltb-true (objects r) (object_limit r) c.0; limit-64 = (formed-head r a.0).limit-64 }
 
 -- ---- start
 
-pub room-none : (n s : ℕ) → room_of n s ≡ 0 → limits_ok n s ≡ false
+pub room-none : (n s : ℕ) → None ≡ unless_zero (room_of n s) → limits_ok n s ≡ false
 unfolding room_of
-room-none n s h = by (limits_ok n s) h
+room-none n s h = by (limits_ok n s) (none-unless_zero _ (sym h))
   where
     by : (b : Bool) → cond b (room_for n s) 0 ≡ 0 → b ≡ false
     by true e = absurd (omega arith)
     by false e = refl
 
-pub room-some : (n s : ℕ) → (room_of n s ≡ 0 → ⊥) → (limits_ok n s ≡ true) × (room_of n s ≡ room_for n s)
+pub room-some : (n s k : ℕ) → Some k ≡ unless_zero (room_of n s) → (limits_ok n s ≡ true) × (k ≡ room_for n s)
 unfolding room_of
-room-some n s h = by (limits_ok n s) h
+room-some n s k h = by (limits_ok n s) (some-unless_zero _ k (sym h)).0 (some-unless_zero _ k (sym h)).1
   where
-    by : (b : Bool) → (cond b (room_for n s) 0 ≡ 0 → ⊥) → (b ≡ true) × (cond b (room_for n s) 0 ≡ room_for n s)
-    by true f = (refl, refl)
-    by false f = absurd (f refl)
+    by : (b : Bool) → cond b (room_for n s) 0 ≡ k → 0 < k → (b ≡ true) × (k ≡ room_for n s)
+    by true e p = (refl, sym e)
+    by false e p = absurd (omega arith)
 
 pub record Startable (n s rule room : ℕ) : Type 0 where
   pub some-objects : 1 ≤ n
@@ -246,11 +266,11 @@ empty-laid t r l₁ l₂ h k e₁ e₂ =
 module _ (a : Answer) (b out : List ℕ) where
   pub copied_all : length b ≤ length out → copied a b out ≡ record { answer = a; bytes = front b out }
   unfolding copied
-  copied_all h = need-yes 8 out _ (le-leb (length b) (length out) h)
+  copied_all h = need-yes Why.Room out _ (le-leb (length b) (length out) h)
 
-  pub copied_none : length out < length b → copied a b out ≡ refuse 8 0 0 out
+  pub copied_none : length out < length b → copied a b out ≡ refuse Why.Room 0 0 out
   unfolding copied
-  copied_none h = need-no 8 out _ (lt-leb (length b) (length out) h)
+  copied_none h = need-no Why.Room out _ (lt-leb (length b) (length out) h)
 
 pub absent-copied : (out : List ℕ) → copied (told_as none) (list_bytes none) out ≡ record { answer = told_as none; bytes = out }
 unfolding list_bytes

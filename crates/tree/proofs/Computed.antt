@@ -11,14 +11,15 @@ use borrow.Author.Tests.{le-leb, eqb-true}
 use Rattle.octets.specs.Bytes.{part}
 use Rattle.list.specs.Entry.{access}
 use Rattle.list.specs.List.{check_of, MaybeList, lent}
-use Rattle.list.specs.declared.lists.Reading.{Reading}
-use Rattle.list.specs.declared.lists.Reading.TheVariants.{Done, Refused as Unread}
+use Rattle.std.specs.Prelude.{Result as Answer, Ok, Err}
+use Rattle.list.specs.declared.readings.Read.{Read}
+use Rattle.refusal.specs.declared.Fault.{Fault}
 use Rattle.octets.proofs.Places.{split}
 use Rattle.octets.proofs.Tests.{off}
 use Rattle.list.proofs.Told.{told}
 use Rattle.list.specs.Answer.{Values, done, refused}
 use Rattle.inherit.specs.Asked.{types_ok}
-use Rattle.inherit.specs.Inner.Source.{source_of}
+use Rattle.inherit.specs.Inner.Source.{reads_if}
 use Rattle.inherit.specs.Branch.{Result, absent, holds, result_of}
 use Rattle.inherit.specs.Compute.{rule_ok, size_for, fits, with_room, compute_of, bytes_for}
 use Rattle.inherit.proofs.Theorems.{Passed, passed-room, present-fits, computes, listed-source, absent-source}
@@ -96,14 +97,14 @@ module _ (e : List ℕ) (p : MaybeList) (b : List ℕ) where
 -- ---- a list that was refused
 
 -- a list that reads as done passes the computation's test
-pub reads-source : (o : MaybeList) → reads o ≡ true → (source_of o).number ≡ 0
+pub reads-source : (o : MaybeList) → reads o ≡ true → reads_if o ≡ true
 unfolding reads
 reads-source none h = absent-source
 reads-source (some s) h = by (check_of access s) refl h
   where
-    by : (r : Reading) → check_of access s ≡ r → is_done r ≡ true → (source_of (some s)).number ≡ 0
-    by (Done l n x) e d = listed-source s n (told access s l n x e).listed
-    by (Unread k at) e d = let z : ◌≡◌ {A = ℕ} 0 1 = cc in absurd (omega arith)
+    by : (r : Answer Read Fault) → check_of access s ≡ r → is_done r ≡ true → reads_if (some s) ≡ true
+    by (Ok read) e d = listed-source s read.count (told access s read.length read.count read.end e).listed
+    by (Err fault) e d = let z : ◌≡◌ {A = ℕ} 0 1 = cc in absurd (omega arith)
 
 pub types-good : (b : List ℕ) → types_ok (type_of b) ≡ true
 unfolding types_ok

@@ -13,6 +13,7 @@ use Rattle.octets.specs.Order.{need}
 use Rattle.list.specs.Answer.{Values, done, refused}
 use Rattle.inherit.specs.Spare.{NoSpare}
 use Rattle.inherit.specs.Said.{NoGeneric}
+use Rattle.refusal.specs.declared.Refusal.TheVariants as Why
 use Rattle.tree.specs.Model.{Settings, short_if, limits_ok}
 use Rattle.tree.specs.General.{is_some, bind}
 use Rattle.tree.specs.Held.{held}
@@ -35,12 +36,12 @@ use Rattle.tree.proofs.Computed.{computed-exact, computed-mended}
 use Rattle.tree.proofs.Likeness.{rest-map, Good, objects_from, replay-like, lists-computed}
 use Rattle.tree.proofs.Modelled.{said, settings-facts, readable-as, test-as, short-is, objects-shown, shown-length, lists-like, change-as}
 use Rattle.tree.proofs.Reading.{ReadAs, part-as, counts-as}
-use Rattle.tree.proofs.Numbers.{accepted-number, change-numbered, undo-numbered, start-numbered}
+use Rattle.tree.proofs.Numbers.{accepted-number}
 
 -- ---- a start
 
 three-needs : (a b c : Bool) (r : List ℕ) (o : Outcome) (v : Values) → said o ≡ v
-    → said (need (a && (b && c)) (refuse 12 0 0 r) o) ≡ need a (refused 12 0 0) (need b (refused 12 0 0) (need c (refused 12 0 0) v))
+    → said (need (a && (b && c)) (refuse Why.Rule 0 0 r) o) ≡ need a (refused 12 0 0) (need b (refused 12 0 0) (need c (refused 12 0 0) v))
 unfolding need
 three-needs true true true r o v e = e
 three-needs true true false r o v e = refl
@@ -53,7 +54,7 @@ unfolding start_to start_ok Model.start_answer Model.limits_ok
 start-as b r =
     three-needs _ _ _ r _ _
     (readable-as 3 r _ _ b.default (λ g.
-    test-as (short_if b.default) _ 8 r _ _ (short-is b.default) (λ f. refl)))
+    test-as (short_if b.default) _ Why.Room r _ _ (short-is b.default) (λ f. refl)))
 
 -- ---- what a room shows of the model's tree, and what calls on it answer
 
@@ -185,12 +186,12 @@ module _ (b : Settings) (r : List ℕ) (h : accepted (start_to b r).answer ≡ t
   unfolding call_on call_to
   all-stays qs (start c) z =
       start-stays c (room qs)
-      (sym (accepted-number (start_to c (room qs)).answer (start-numbered c (room qs))) ∙ z)
+      (sym (accepted-number (start_to c (room qs)).answer) ∙ z)
   all-stays qs (change c) z =
       let e = call-change c (room qs) in
-      let n = sym (accepted-number (change_with c (room qs)).answer (change-numbered c (room qs))) ∙ z in
+      let n = sym (accepted-number (change_with c (room qs)).answer) ∙ z in
       subst (λ (o : Outcome). o.bytes ≡ room qs) e ((H qs).refused-stays (edit c) (ap (λ (o : Outcome). accepted o.answer) e ∙ n))
-  all-stays qs undo z = (H qs).refused-stays take_back (sym (accepted-number (undo_to (room qs)).answer (undo-numbered (room qs))) ∙ z)
+  all-stays qs undo z = (H qs).refused-stays take_back (sym (accepted-number (undo_to (room qs)).answer) ∙ z)
   all-stays qs (read x i out) z = refl
   all-stays qs counts z = refl
 
@@ -228,7 +229,7 @@ module _ (b : Settings) (r : List ℕ) (h : accepted (start_to b r).answer ≡ t
   change-next qs c =
       let a : Model.accepted (Model.change_answer (settings_from b) (Model.objects_of (tree qs)) (change_meant c))
       ≡ is_some (afresh (rules b.object-limit e) b.step-limit (c ∷ (past qs).done)) =
-      ap Model.accepted (sym (change-said qs c)) ∙ accepted-number (change_with c (room qs)).answer (change-numbered c (room qs)) ∙ called c in
+      ap Model.accepted (sym (change-said qs c)) ∙ accepted-number (change_with c (room qs)).answer ∙ called c in
       ap (λ (x : Bool). cond x (Model.noted (tree qs) (change_meant c)) (tree qs)) a
       ∙ noted-as (past qs) c (afresh (rules b.object-limit e) b.step-limit (c ∷ (past qs).done))
     where
@@ -330,7 +331,7 @@ module _ {long : ℕ} {r : List ℕ} {s : Model.Tree} (f : Follows long r s) whe
 
   start-accepted : (b : Settings)
       → Model.accepted (Model.answer s (Model.start (settings_from b) (leb (room_for b.object-limit b.step-limit) long))) ≡ accepted (start_to b r).answer
-  start-accepted b = rw (← f.long-is) (ap Model.accepted (sym (start-said s b r)) ∙ accepted-number (start_to b r).answer (start-numbered b r))
+  start-accepted b = rw (← f.long-is) (ap Model.accepted (sym (start-said s b r)) ∙ accepted-number (start_to b r).answer)
 
   follows-call : (q : Request) → Follows long (call_on q r).bytes (Model.next s (meant long q))
   unfolding call_on meant
@@ -351,7 +352,7 @@ follows-all b r h (q ∷ qs) = follows-call (follows-all b r h qs) q
 -- the theorem
 pub demand3 : (t : Settings) (r : List ℕ) → Model.accepted (answer_values (start_to t r).answer) ≡ true → (qs : List Request)
     → Shows (length r) (played_on qs (start_to t r).bytes) (Model.after (Model.begun (settings_from t)) (map (meant (length r)) qs))
-demand3 t r h qs = T (follows-all t r (sym (accepted-number (start_to t r).answer (start-numbered t r)) ∙ h) qs)
+demand3 t r h qs = T (follows-all t r (sym (accepted-number (start_to t r).answer) ∙ h) qs)
 
 -- every call leaves a well-formed room well formed, reached by calls or not
 pub call-keeps : (r : List ℕ) → formed r ≡ true → (q : Request) → formed (call_on q r).bytes ≡ true

@@ -13,12 +13,12 @@ use Rattle.list.specs.List.{MaybeList}
 use Rattle.octets.specs.Order.{need}
 use Rattle.list.specs.Answer.{Values, done, refused}
 use Rattle.octets.proofs.Places.{length_part}
-use Rattle.tree.specs.declared.Answer.TheVariants.{Refused}
+use Rattle.refusal.specs.declared.Refusal.TheVariants as Why
 use Rattle.tree.specs.General.{is_some, tab}
 use Rattle.tree.specs.Room.{object_limit, step_limit, objects, kept_steps, settings, own_data, step, step_object, step_data, area}
 use Rattle.tree.specs.Formed.{steps_ok, formed}
 use Rattle.tree.specs.Inner.Heads.{Head}
-use Rattle.tree.specs.Calls.{undo_ends, step_taken_back, undo_to, answer_values, ChangeGiven}
+use Rattle.tree.specs.Calls.{refusal, undo_ends, step_taken_back, undo_to, answer_values, ChangeGiven}
 use Rattle.tree.proofs.History.{undo, settled, after, undone as undone-by}
 use Rattle.tree.proofs.Replay.{Blocks, Undo, back, undo_in, when, work, rules, shown, Tree}
 use Rattle.tree.proofs.Played.{call_to, accepted}
@@ -91,11 +91,11 @@ module _ (r : List ℕ) (F : Formed r) (p : 0 < kept_steps r) where
   unfolding shown
   first = tab-first (kept_steps r) (λ j. undo_in (step (object_limit r) j r)) p
 
-  undo-refused : accepted (undo_to r).answer ≡ false → (undo_to r).answer ≡ Refused 8 0 0
+  undo-refused : accepted (undo_to r).answer ≡ false → (undo_to r).answer ≡ refusal Why.Room 0 0
   unfolding undo_to need undo_ends
   undo-refused a = rw (facts-formed r F, lt-ltb 0 (kept_steps r) p) (by (step_taken_back (area r)) (rw (facts-formed r F, lt-ltb 0 (kept_steps r) p) at a))
     where
-      by : (o : Option (List ℕ)) → accepted (undo_ends r o).answer ≡ false → (undo_ends r o).answer ≡ Refused 8 0 0
+      by : (o : Option (List ℕ)) → accepted (undo_ends r o).answer ≡ false → (undo_ends r o).answer ≡ refusal Why.Room 0 0
       by none b = refl
       by (some w) b = let z : ◌≡◌ {A = ℕ} 0 1 = cc in absurd (omega arith)
 

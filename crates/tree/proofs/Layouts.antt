@@ -10,16 +10,16 @@ use Rattle.list.specs.List.{MaybeList}
 use Rattle.octets.specs.Bytes.{put_at}
 use Rattle.list.specs.Identity.{creator}
 use Rattle.inherit.proofs.Worked.{mapping, system, parent_with, inherited, listed}
+use Rattle.refusal.specs.declared.Refusal.TheVariants as Why
 use Rattle.tree.specs.General.{every, tab}
 use Rattle.tree.specs.Model.{Settings, Object, short_if, limits_ok}
 use Rattle.tree.specs.Held.{bytes_in, slot_ok, id_in, id_ok, block_ok, alike}
 use Rattle.tree.specs.Room.{settings, own_data, slot, step, empty_room}
 use Rattle.tree.specs.Formed.{counts_ok, settings_ok, placed_in, object_ok, again_ok, step_ok, steps_ok, formed}
 use Rattle.octets.specs.Order.{need}
-use Rattle.tree.specs.declared.Answer.TheVariants.{Done, Refused}
 use Rattle.tree.specs.Work as Work
 use Rattle.tree.specs.Work.{above_in, rework, reworked}
-use Rattle.tree.specs.Calls.{step_kept, step_gone, on_reading_to, readable_to, told_as, on_object, reworked_with, changed, step_taken_back, change_ends, undo_ends, start_ok, start_to, list as Edit·list, mark as Edit·mark}
+use Rattle.tree.specs.Calls.{tells, refusal, step_kept, step_gone, on_reading_to, readable_to, told_as, on_object, reworked_with, changed, step_taken_back, change_ends, undo_ends, start_ok, start_to, list as Edit·list, mark as Edit·mark}
 use Rattle.tree.specs.Calls.{owners, edit_at, edit_bytes, tested, object_for, add_to, alter_to, undo_to, refuse, list_bytes, copied, list_to, own_to, data_of, data_to, counts_to}
 use Rattle.tree.specs.Shown.{settings_in, settings_from, objects_in, lists_in, objects_back}
 use Rattle.tree.proofs.Trees.{plain, plain_list, long_list}
@@ -229,50 +229,50 @@ K9_list = listed 0x44 3 (plain ∷ inherited 0x10 ∷ inherited 0x1B ∷ [])
 
 pub record CallsWorked : Type 0 where
   -- undo takes the mark off again; the step that is left lies in front, and where it lay
-  pub undone : undo_to room ≡ record { answer = Done 0 false 0; bytes = laid 2 1 fresh_first (own 0 0 8 no-list) fresh_second (added ++ added) }
+  pub undone : undo_to room ≡ record { answer = tells 0 false 0; bytes = laid 2 1 fresh_first (own 0 0 8 no-list) fresh_second (added ++ added) }
   -- the mark taken off by a change: the step that added the container is forgotten
-  pub unmarked : alter_to 1 (Edit·mark false) room ≡ record { answer = Done 48 true 2; bytes = laid 2 2 fresh_first (own 0 0 8 no-list) fresh_second (altered 1 ++ altered 0) }
+  pub unmarked : alter_to 1 (Edit·mark false) room ≡ record { answer = tells 48 true 2; bytes = laid 2 2 fresh_first (own 0 0 8 no-list) fresh_second (altered 1 ++ altered 0) }
   -- the container added to the root alone, its place empty before; a third object is one too many
   pub another :
       add_to (folder (some 0) true 8 none) root-alone
-      ≡ record { answer = Done 48 true 2; bytes = laid 2 1 fresh_first (own 0 1 8 no-list) fresh_second (added ++ replicate 1186 6) }
-  pub too_many : add_to (folder (some 0) true 8 none) room ≡ refuse 10 0 0 room
+      ≡ record { answer = tells 48 true 2; bytes = laid 2 1 fresh_first (own 0 1 8 no-list) fresh_second (added ++ replicate 1186 6) }
+  pub too_many : add_to (folder (some 0) true 8 none) room ≡ refuse Why.Full 0 0 room
   -- undo of an add: its object is gone, and what lies in the place of its list stays; a room with no kept step
   pub taken-off :
       undo_to (laid 2 1 one_list (own 0 1 8 no-list) one_list (added ++ replicate 1186 6))
-      ≡ record { answer = Done 0 false 0; bytes = laid 1 0 fresh_first (replicate 1184 0) one_list (replicate 2372 6) }
-  pub no_step : undo_to root-alone ≡ refuse 11 0 0 root-alone
+      ≡ record { answer = tells 0 false 0; bytes = laid 1 0 fresh_first (replicate 1184 0) one_list (replicate 2372 6) }
+  pub no_step : undo_to root-alone ≡ refuse Why.NoStep 0 0 root-alone
   -- owner and group in each other's place; a placeholder for either
   pub exchanged :
       alter_to 1 (owners service system) room
-      ≡ record { answer = Done 48 true 2; bytes = laid 2 2 fresh_first (owned service system 0 1 8 no-list) fresh_second (altered 1 ++ altered 0) }
-  pub no-owner : alter_to 1 (owners (creator 0) system) room ≡ refuse 6 0 0 room
-  pub no-group : alter_to 1 (owners system (creator 1)) room ≡ refuse 6 0 0 room
+      ≡ record { answer = tells 48 true 2; bytes = laid 2 2 fresh_first (owned service system 0 1 8 no-list) fresh_second (altered 1 ++ altered 0) }
+  pub no-owner : alter_to 1 (owners (creator 0) system) room ≡ refuse Why.Identity 0 0 room
+  pub no-group : alter_to 1 (owners system (creator 1)) room ≡ refuse Why.Identity 0 0 room
   -- below the root: what is no container (K2); an own list with the mark (K8) and without (K9)
   pub leaf :
       add_to (record { parent = some 0; container = false; mark = false; type = replicate 16 8; owner = system; group = service; list = none }) root-alone
-      ≡ record { answer = Done 28 true 1; bytes = laid 2 1 fresh_first (set (own 0 0 8 no-list) 1 0) (slot_of 28 (listed 0x1C 1 (inherited 0x10 ∷ [])) 996) (added ++ replicate 1186 6) }
+      ≡ record { answer = tells 28 true 1; bytes = laid 2 1 fresh_first (set (own 0 0 8 no-list) 1 0) (slot_of 28 (listed 0x1C 1 (inherited 0x10 ∷ [])) 996) (added ++ replicate 1186 6) }
   pub closed :
       add_to (folder (some 0) true 8 (some plain_list)) root-alone
-      ≡ record { answer = Done 28 true 1; bytes = laid 2 1 fresh_first (own 0 1 8 (slot_of 28 plain_list 996)) (slot_of 28 plain_list 996) (added ++ replicate 1186 6) }
+      ≡ record { answer = tells 28 true 1; bytes = laid 2 1 fresh_first (own 0 1 8 (slot_of 28 plain_list 996)) (slot_of 28 plain_list 996) (added ++ replicate 1186 6) }
   pub opened :
       add_to (folder (some 0) false 8 (some plain_list)) root-alone
-      ≡ record { answer = Done 68 true 3; bytes = laid 2 1 fresh_first (own 0 0 8 (slot_of 28 plain_list 996)) (slot_of 68 K9_list 956) (added ++ replicate 1186 6) }
+      ≡ record { answer = tells 68 true 3; bytes = laid 2 1 fresh_first (own 0 0 8 (slot_of 28 plain_list 996)) (slot_of 68 K9_list 956) (added ++ replicate 1186 6) }
   -- a room that isn't well formed, and an object that doesn't stand
-  pub no-tree : undo_to (take 7841 room) ≡ refuse 13 0 0 (take 7841 room)
-  pub no-tree-changed : alter_to 1 (Edit·mark true) (take 7841 room) ≡ refuse 13 0 0 (take 7841 room)
-  pub no-object : alter_to 2 (Edit·mark true) room ≡ refuse 9 0 0 room
+  pub no-tree : undo_to (take 7841 room) ≡ refuse Why.Tree 0 0 (take 7841 room)
+  pub no-tree-changed : alter_to 1 (Edit·mark true) (take 7841 room) ≡ refuse Why.Tree 0 0 (take 7841 room)
+  pub no-object : alter_to 2 (Edit·mark true) room ≡ refuse Why.Object 0 0 room
   -- 8: the root's list of 1,024 bytes would give the container one of 2,040; and so would undo of a step that had it
-  pub over : alter_to 0 (Edit·list (some (long_list 3))) room ≡ refuse 8 0 0 room
-  pub undo-over : undo_to (room-before (long_list 3)) ≡ refuse 8 0 0 (room-before (long_list 3))
+  pub over : alter_to 0 (Edit·list (some (long_list 3))) room ≡ refuse Why.Room 0 0 room
+  pub undo-over : undo_to (room-before (long_list 3)) ≡ refuse Why.Room 0 0 (room-before (long_list 3))
   -- what is read back, and where there is no room for it
-  pub own_read : own_to 0 room (replicate 29 9) ≡ record { answer = Done 28 true 1; bytes = parent_with 0x03 ++ (9 ∷ []) }
-  pub list_read : list_to 1 room (replicate 2 9) ≡ record { answer = Done 0 false 0; bytes = replicate 2 9 }
-  pub list-short : list_to 0 room (replicate 27 9) ≡ refuse 8 0 0 (replicate 27 9)
+  pub own_read : own_to 0 room (replicate 29 9) ≡ record { answer = tells 28 true 1; bytes = parent_with 0x03 ++ (9 ∷ []) }
+  pub list_read : list_to 1 room (replicate 2 9) ≡ record { answer = tells 0 false 0; bytes = replicate 2 9 }
+  pub list-short : list_to 0 room (replicate 27 9) ≡ refuse Why.Room 0 0 (replicate 27 9)
   pub data-read :
       data_to 1 room (replicate 46 9)
-      ≡ record { answer = Done 45 true 0; bytes = (0 ∷ 1 ∷ 1 ∷ []) ++ (replicate 16 8 ++ ((12 ∷ system) ++ ((12 ∷ service) ++ (9 ∷ [])))) }
-  pub counted : (counts_to room ≡ Done 2 true 2) × (counts_to (take 7841 room) ≡ Refused 13 0 0)
+      ≡ record { answer = tells 45 true 0; bytes = (0 ∷ 1 ∷ 1 ∷ []) ++ (replicate 16 8 ++ ((12 ∷ system) ++ ((12 ∷ service) ++ (9 ∷ [])))) }
+  pub counted : (counts_to room ≡ tells 2 true 2) × (counts_to (take 7841 room) ≡ refusal Why.Tree 0 0)
 
 pub calls-worked : CallsWorked
 unfolding bytes_open entries_open lists_open copies_open last_open compute-open tree_open room room-before root-alone laid masks added altered name no-list one_list owned slot_of folder formed_open put_at step_kept step_gone calls-open
@@ -317,7 +317,7 @@ limits-worked = (refl, (refl, (refl, refl)))
 
 -- a start, in a room of other bytes
 pub begun : start_to (record { object-limit = 1; step-limit = 1; rule = 1; mapping = mapping; default = some (parent_with 0x03) }) (replicate 4446 9)
-    ≡ record { answer = Done 0 false 0; bytes = (1 ∷ 1 ∷ 0 ∷ 0 ∷ 1 ∷ []) ++ (masks ++ (one_list ++ (replicate 3397 0 ++ (9 ∷ [])))) }
+    ≡ record { answer = tells 0 false 0; bytes = (1 ∷ 1 ∷ 0 ∷ 0 ∷ 1 ∷ []) ++ (masks ++ (one_list ++ (replicate 3397 0 ++ (9 ∷ [])))) }
 unfolding bytes_open entries_open tree_open compute-open lists_open calls-open masks one_list
 begun = refl
 

@@ -1,14 +1,15 @@
 -- Laws of what the code lays: bytes written one after the other at a place, and so slots, identities, own data and settings; how long each is.
 use mathlib.Core.Path.{◌≡◌, refl, sym, ap, ◌∙◌}
 use mathlib.Core.List.{List, [], ◌∷◌, ◌++◌, append_assoc}
-use mathlib.Core.Bool.{true}
+use mathlib.Core.Bool.{Bool, true, false}
+use mir.Val.{bool_byte}
 use mathlib.Core.Option.{none, some}
 use Prim.Native.Nat.{ℕ, ◌+◌, ◌-◌, ◌/◌, ◌%◌, ◌≤◌, ◌<◌, min}
-use native.Mathlib.Nat.{mod-eq_of_lt, div-lt_iff_lt-mul}
 use native.Mathlib.Omega.{arith}
 use borrow.Author.Tests.{leb-true, le-leb}
-use lib.ListN.{length, set, replicate, length-append, length-replicate, replicate-append-replicate}
-use lib.Seq.{take_all}
+use lib.ListN.{length, set, take, drop, replicate, length-append, length-replicate}
+use lib.Seq.{take_all, drop-drop}
+use Rattle.std.proofs.Math.Nat.{div-div-eq-div-mul}
 use Rattle.list.specs.List.{MaybeList}
 use Rattle.octets.specs.Bytes.{put_at, spell, guid_at}
 use Rattle.octets.proofs.Little.{length-spell}
@@ -40,10 +41,26 @@ write-more {a} {n} {b} {l} {m} j c p w e h f =
     let g : put_at (a + n) c (put_at a b l) ≡ put_at a (b ++ c) l = rw (← k) (put-append a b c l (omega arith)) in
     record { long = simp length-append (omega arith); is = f ∙ ap (put_at (a + n) c) w.is ∙ g }
 
--- one zero more
-pub zero_more : (a i : ℕ) (l m : List ℕ) → m ≡ put_at a (replicate i 0) l → a + i < length l → set m (a + i) 0 ≡ put_at a (replicate (i + 1) 0) l
-zero_more a i l m e h =
-    (write-next 0 (record { long = length-replicate i 0; is = e }) h).is ∙ ap (λ (z : List ℕ). put_at a z l) (replicate-append-replicate {A = ℕ} i 1 0)
+-- what lies in a part of l is written anew
+pub laid-at : (a n : ℕ) (b l m : List ℕ) → length b ≡ n → m ≡ b → take a l ++ (m ++ drop (a + n - a) (drop a l)) ≡ put_at a b l
+unfolding put_at
+laid-at a n b l m h e =
+    let q : drop (a + n - a) (drop a l) ≡ drop (a + length b) l = drop-drop (a + n - a) a l ∙ ap (λ (k : ℕ). drop k l) (omega arith) in
+    rw (e, q) refl
+
+-- the bytes of a number of two and of four bytes
+pub half-spelt : (m : ℕ) → m % 256 ∷ m / 256 % 256 ∷ [] ≡ spell 2 m
+unfolding spell
+half-spelt m = refl
+
+pub word-spelt : (m : ℕ) → m % 256 ∷ m / 256 % 256 ∷ m / 65536 % 256 ∷ m / 16777216 % 256 ∷ [] ≡ spell 4 m
+unfolding spell
+word-spelt m = rw (div-div-eq-div-mul m 256 256, div-div-eq-div-mul m 65536 256) refl
+
+-- a flag's byte
+pub byte-yes : (b : Bool) → bool_byte b ≡ yes b
+byte-yes true = refl
+byte-yes false = refl
 
 -- ---- how long
 
@@ -80,15 +97,12 @@ write-padded {a} {n} {b} {l} {m} j s p w h k e =
     let lm : length m ≡ length l = ap length w.is ∙ length-put a b l (omega arith) in
     write-more j (s ++ z) _ w (length-padded j s h) k (ap (put_at (a + n + length s) z) e ∙ put-append (a + n) s z m (omega arith))
 
-pub slot-laid : (a : ℕ) (s l m : List ℕ) → length s ≤ 1024 → a + 1027 ≤ length l
-    → m ≡ put_at (a + 3) s (set (set (set l a 1) (a + 1) (length s % 256)) (a + 2) (length s / 256))
-    → put_at (a + 3 + length s) (replicate (1024 - length s) 0) m ≡ put_at a (slot_for (some s)) l
-unfolding slot_for spell
-slot-laid a s l m h k e =
-    let f : length s / 256 % 256 ≡ length s / 256 = mod-eq_of_lt ((div-lt_iff_lt-mul {k = 256} {x = length s} {y = 256} (omega arith)).1 (omega arith)) in
-    let w = write-next (length s / 256) (write-next (length s % 256) (write-one a 1 l (omega arith)) (omega arith)) (omega arith) in
-    (write-padded 1024 s m w h (omega arith) e).is
-    ∙ ap (λ (y : ℕ). put_at a (1 ∷ length s % 256 ∷ y ∷ (s ++ replicate (1024 - length s) 0)) l) (sym f)
+pub slot-laid : (a : ℕ) (s l m p : List ℕ) → length s ≤ 1024 → a + 1027 ≤ length l → m ≡ put_at (a + 1) (spell 2 (length s)) (set l a 1) → p ≡ put_at (a + 3) s m
+    → put_at (a + 3 + length s) (replicate (1024 - length s) 0) p ≡ put_at a (slot_for (some s)) l
+unfolding slot_for
+slot-laid a s l m p h k e f =
+    let w = write-more 2 (spell 2 (length s)) m (write-one a 1 l (omega arith)) (length-spell 2 (length s)) (omega arith) e in
+    (write-padded 1024 s p w h (omega arith) f).is
 
 pub id-laid : (a : ℕ) (s l m : List ℕ) → length s ≤ 68 → a + 69 ≤ length l → m ≡ put_at (a + 1) s (set l a (length s))
     → put_at (a + 1 + length s) (replicate (68 - length s) 0) m ≡ put_at a (id_for s) l
@@ -98,15 +112,6 @@ id-laid a s l m h k e = (write-padded 68 s m (write-one a (length s) l (omega ar
 pub ids-laid : (a : ℕ) (o g l m p : List ℕ) → length o ≤ 68 → length g ≤ 68 → a + 138 ≤ length l → m ≡ put_at a (id_for o) l → p ≡ put_at (a + 69) (id_for g) m
     → p ≡ put_at a (id_for o ++ id_for g) l
 ids-laid a o g l m p h k f e d = (write-more 69 (id_for g) p (record { long = length-id o h; is = e }) (length-id g k) (omega arith) d).is
-
-pub word-laid : (a m : ℕ) (l : List ℕ) → a + 4 ≤ length l
-    → set (set (set (set l a (m % 256)) (a + 1) (m / 256 % 256)) (a + 2) (m / 256 / 256 % 256)) (a + 3) (m / 256 / 256 / 256 % 256) ≡ put_at a (spell 4 m) l
-unfolding spell
-word-laid a m l h =
-    let one = write-one a (m % 256) l (omega arith) in
-    let two = write-next (m / 256 % 256) one (omega arith) in
-    let three = write-next (m / 256 / 256 % 256) two (omega arith) in
-    (write-next (m / 256 / 256 / 256 % 256) three (omega arith)).is
 
 regroup : (h t o g s : List ℕ) → ((h ++ t) ++ (o ++ g)) ++ s ≡ h ++ (t ++ (o ++ (g ++ s)))
 regroup h t o g s = simp append_assoc

@@ -45,3 +45,4 @@ pub mod Sequences
 pub mod Order
 pub mod OrderWorked
 pub mod Determined
+pub mod Lent

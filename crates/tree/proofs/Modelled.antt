@@ -13,11 +13,15 @@ use Rattle.octets.specs.Bytes.{put_at, front}
 use Rattle.list.specs.Entry.{access}
 use Rattle.list.specs.List.{check_of, MaybeList}
 use Rattle.list.specs.Answer.{Values, refused}
-use Rattle.list.specs.declared.lists.Reading.{Reading}
-use Rattle.list.specs.declared.lists.Reading.TheVariants.{Done as Read, Refused as Unread}
+use Rattle.std.specs.Prelude.{Result, Ok, Err}
+use Rattle.list.specs.declared.readings.Read.{Read}
+use Rattle.refusal.specs.declared.Fault.{Fault}
 use Rattle.octets.proofs.Places.{split, length_part, part-front}
 use Rattle.octets.proofs.Tests.{both_true}
 use Rattle.inherit.specs.Compute.{ordinary, rule_ok, on_reading as Values·on_reading, readable as Values·readable}
+use Rattle.refusal.specs.Numbers.{number_of}
+use Rattle.refusal.specs.declared.Refusal.{Refusal}
+use Rattle.refusal.specs.declared.Refusal.TheVariants as Why
 use Rattle.tree.specs.Model.{short_if}
 use Rattle.tree.specs.General.{is_some, tab}
 use Rattle.tree.specs.Held.{held, is_done, slot_ok, parent_in, block_for}
@@ -50,21 +54,21 @@ use Rattle.tree.proofs.Likeness.{map_more, Good, objects_from, change-like, work
 abbrev pub said : Outcome → Values
 said o = answer_values o.answer
 
-pub need-as : (b : Bool) (k : ℕ) (r : List ℕ) (o : Outcome) (v : Values) → (b ≡ true → said o ≡ v) → said (need b (refuse k 0 0 r) o) ≡ need b (refused k 0 0) v
+pub need-as : (b : Bool) (k : Refusal) (r : List ℕ) (o : Outcome) (v : Values) → (b ≡ true → said o ≡ v) → said (need b (refuse k 0 0 r) o) ≡ need b (refused (number_of k) 0 0) v
 unfolding need
 need-as true k r o v h = h refl
 need-as false k r o v h = refl
 
 -- the same test in other words
-pub test-as : (b c : Bool) (k : ℕ) (r : List ℕ) (o : Outcome) (v : Values) → b ≡ c → (b ≡ true → said o ≡ v)
-    → said (need b (refuse k 0 0 r) o) ≡ need c (refused k 0 0) v
+pub test-as : (b c : Bool) (k : Refusal) (r : List ℕ) (o : Outcome) (v : Values) → b ≡ c → (b ≡ true → said o ≡ v)
+    → said (need b (refuse k 0 0 r) o) ≡ need c (refused (number_of k) 0 0) v
 test-as b c k r o v e h = rw (← e) (need-as b k r o v h)
 
 module _ (which : ℕ) (r : List ℕ) (o : Outcome) (v : Values) where
-  reading-as : (x : Reading) → (is_done x ≡ true → said o ≡ v) → said (on_reading_to x which r o) ≡ Values·on_reading x which v
+  reading-as : (x : Result Read Fault) → (is_done x ≡ true → said o ≡ v) → said (on_reading_to x which r o) ≡ Values·on_reading x which v
   unfolding on_reading_to Values·on_reading
-  reading-as (Read l n x) h = h refl
-  reading-as (Unread k at) h = refl
+  reading-as (Ok read) h = h refl
+  reading-as (Err fault) h = refl
 
   pub readable-as : (l : MaybeList) → (reads l ≡ true → said o ≡ v) → said (readable_to l which r o) ≡ Values·readable l which v
   unfolding readable_to Values·readable reads
@@ -221,8 +225,8 @@ module _ (r : List ℕ) (F : Formed r) where
   alter-is i e h f =
       let go : Outcome = change_to (edit_put i e (objects r)) r in
       passed_on (formed r && (ltb i (objects r) && fine e))
-      (then r _ _ go (formed r) (ltb i (objects r) && fine e) (need-first (formed r) 13 r _)
-      (then r _ _ go (ltb i (objects r)) (fine e) (need-first (ltb i (objects r)) 9 r _) (tested-first e r go)))
+      (then r _ _ go (formed r) (ltb i (objects r) && fine e) (need-first (formed r) Why.Tree r _)
+      (then r _ _ go (ltb i (objects r)) (fine e) (need-first (ltb i (objects r)) Why.Object r _) (tested-first e r go)))
       (rw (facts-formed r F, lt-ltb i (objects r) h) f)
 
   alter-change : (i : ℕ) (e : Edit) → i < objects r → fine e ≡ true
@@ -245,21 +249,21 @@ module _ (r : List ℕ) (F : Formed r) where
   alter-as : (i : ℕ) (e : Edit) → said (alter_to i e r) ≡ Model.change_answer t (objects_in r) (alteration i e)
   unfolding alter_to on_object tested Model.change_answer alteration fine
   alter-as i (list o) =
-      ap said (need-yes 13 r _ (facts-formed r F))
+      ap said (need-yes Why.Tree r _ (facts-formed r F))
       ∙ rw (objects-length r, ← short-is o)
-      (need-as (ltb i (objects r)) 9 r _ _ (λ h.
+      (need-as (ltb i (objects r)) Why.Object r _ _ (λ h.
       readable-as 2 r _ _ o (λ g.
-      need-as (short_if o) 8 r _ _ (λ f. alter-go i (list o) (ltb-true i (objects r) h) (rw (g, f) refl)))))
+      need-as (short_if o) Why.Room r _ _ (λ f. alter-go i (list o) (ltb-true i (objects r) h) (rw (g, f) refl)))))
   alter-as i (mark m) =
-      ap said (need-yes 13 r _ (facts-formed r F))
+      ap said (need-yes Why.Tree r _ (facts-formed r F))
       ∙ rw (objects-length r)
-      (need-as (ltb i (objects r)) 9 r _ _ (λ h. alter-go i (mark m) (ltb-true i (objects r) h) refl))
+      (need-as (ltb i (objects r)) Why.Object r _ _ (λ h. alter-go i (mark m) (ltb-true i (objects r) h) refl))
   alter-as i (owners x y) =
-      ap said (need-yes 13 r _ (facts-formed r F))
+      ap said (need-yes Why.Tree r _ (facts-formed r F))
       ∙ rw (objects-length r)
-      (need-as (ltb i (objects r)) 9 r _ _ (λ h.
-      need-as (ordinary x) 6 r _ _ (λ f.
-      need-as (ordinary y) 6 r _ _ (λ g. alter-go i (owners x y) (ltb-true i (objects r) h) (rw (f, g) refl)))))
+      (need-as (ltb i (objects r)) Why.Object r _ _ (λ h.
+      need-as (ordinary x) Why.Identity r _ _ (λ f.
+      need-as (ordinary y) Why.Identity r _ _ (λ g. alter-go i (owners x y) (ltb-true i (objects r) h) (rw (f, g) refl)))))
 
   -- ---- an add
 
@@ -273,12 +277,12 @@ module _ (r : List ℕ) (F : Formed r) where
       let go : Outcome = change_to (add_put (object_for new) (objects r)) r in
       let at = placed_in (λ j. own_data j r) (objects r) (parent_in nobody new.parent) in
       passed_on (formed r && asks new)
-      (then r _ _ go (formed r) _ (need-first (formed r) 13 r _)
-      (then r _ _ go at _ (need-first at 9 r _)
-      (then r _ _ go (ltb (objects r) (object_limit r)) _ (need-first (ltb (objects r) (object_limit r)) 10 r _)
+      (then r _ _ go (formed r) _ (need-first (formed r) Why.Tree r _)
+      (then r _ _ go at _ (need-first at Why.Object r _)
+      (then r _ _ go (ltb (objects r) (object_limit r)) _ (need-first (ltb (objects r) (object_limit r)) Why.Full r _)
       (then r _ _ go (reads new.list) _ (reads_first new.list 2 r _)
-      (then r _ _ go (ordinary new.owner) _ (need-first (ordinary new.owner) 6 r _)
-      (then r _ _ go (ordinary new.group) (short_if new.list) (need-first (ordinary new.group) 6 r _) (need-first (short_if new.list) 8 r go)))))))
+      (then r _ _ go (ordinary new.owner) _ (need-first (ordinary new.owner) Why.Identity r _)
+      (then r _ _ go (ordinary new.group) (short_if new.list) (need-first (ordinary new.group) Why.Identity r _) (need-first (short_if new.list) Why.Room r go)))))))
       (rw (facts-formed r F) ask)
 
   add-change : (new : New) → asks new ≡ true → change (object_limit r) (add new) (shown r).own ≡ some ((shown r).own ++ (block_for (object_for new) ∷ []))
@@ -307,14 +311,14 @@ module _ (r : List ℕ) (F : Formed r) where
   add-as : (new : New) → said (add_to (object_for new) r) ≡ Model.change_answer t (objects_in r) (Model.add (object_for new))
   unfolding add_to Model.change_answer asks
   add-as new =
-      ap said (need-yes 13 r _ (facts-formed r F))
+      ap said (need-yes Why.Tree r _ (facts-formed r F))
       ∙ rw (objects-length r)
-      (test-as (placed_in (λ j. own_data j r) (objects r) (parent_in nobody new.parent)) _ 9 r _ _ (placed-is r (parent_in nobody new.parent)) (λ h₁.
-      need-as (ltb (objects r) (object_limit r)) 10 r _ _ (λ h₂.
+      (test-as (placed_in (λ j. own_data j r) (objects r) (parent_in nobody new.parent)) _ Why.Object r _ _ (placed-is r (parent_in nobody new.parent)) (λ h₁.
+      need-as (ltb (objects r) (object_limit r)) Why.Full r _ _ (λ h₂.
       readable-as 2 r _ _ new.list (λ h₃.
-      need-as (ordinary new.owner) 6 r _ _ (λ h₄.
-      need-as (ordinary new.group) 6 r _ _ (λ h₅.
-      test-as (short_if new.list) _ 8 r _ _ (short-is new.list) (λ h₆. add-go new (rw (h₁, h₂, h₃, h₄, h₅, h₆) refl))))))))
+      need-as (ordinary new.owner) Why.Identity r _ _ (λ h₄.
+      need-as (ordinary new.group) Why.Identity r _ _ (λ h₅.
+      test-as (short_if new.list) _ Why.Room r _ _ (short-is new.list) (λ h₆. add-go new (rw (h₁, h₂, h₃, h₄, h₅, h₆) refl))))))))
 
   -- a change in any well-formed room answers what the model answers for the objects that the room shows
   pub change-as : (c : ChangeGiven) → said (change_with c r) ≡ Model.change_answer t (objects_in r) (change_meant c)

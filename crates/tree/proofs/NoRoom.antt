@@ -13,8 +13,9 @@ use lib.Dec.{leb, ltb}
 use borrow.Author.Tests.{leb-false, lt-leb, ltb-true}
 use Rattle.list.specs.Entry.{access}
 use Rattle.list.specs.List.{check_of, MaybeList}
-use Rattle.list.specs.declared.lists.Reading.{Reading}
-use Rattle.list.specs.declared.lists.Reading.TheVariants.{Done as Read, Refused as Unread}
+use Rattle.std.specs.Prelude.{Result as Answer, Ok, Err}
+use Rattle.list.specs.declared.readings.Read.{Read}
+use Rattle.refusal.specs.declared.Fault.{Fault}
 use Rattle.octets.proofs.Places.{split}
 use Rattle.octets.proofs.Tests.{both_true, off}
 use Rattle.inherit.specs.Branch.{Result, absent, holds, result_of}
@@ -181,9 +182,9 @@ unfolding reads readable on_reading
 reads_on none which v h = refl
 reads_on (some s) which v h = by (check_of access s) h
   where
-    by : (x : Reading) → is_done x ≡ true → on_reading x which v ≡ v
-    by (Read l n x) e = refl
-    by (Unread k at) e = let z : ◌≡◌ {A = ℕ} 0 1 = cc in absurd (omega arith)
+    by : (x : Answer Read Fault) → is_done x ≡ true → on_reading x which v ≡ v
+    by (Ok read) e = refl
+    by (Err fault) e = let z : ◌≡◌ {A = ℕ} 0 1 = cc in absurd (omega arith)
 
 need-on : (v w : Values) → need true v w ≡ w
 unfolding need

@@ -2,9 +2,8 @@
 use mathlib.Core.Bool.{Bool, true, false}
 use mathlib.Core.List.{List, [], ◌∷◌}
 use Prim.Native.Nat.{ℕ}
-use Rattle.tree.specs.declared.Answer.{Answer}
-use Rattle.tree.specs.declared.Answer.TheVariants.{Done, Refused}
-use Rattle.tree.specs.Calls.{Outcome, object_for, add_to, alter_to, undo_to, ChangeGiven, add, alter}
+use Rattle.std.specs.Prelude.{Ok, Err}
+use Rattle.tree.specs.Calls.{Answer, Outcome, object_for, add_to, alter_to, undo_to, ChangeGiven, add, alter}
 use Rattle.tree.proofs.History.{Call, edit, undo}
 
 -- one call
@@ -15,8 +14,8 @@ call_to undo r = undo_to r
 
 -- answer 0
 abbrev pub accepted : Answer → Bool
-accepted (Done len is n) = true
-accepted (Refused k which at) = false
+accepted (Ok d) = true
+accepted (Err f) = false
 
 -- the room after calls, the latest first
 unfoldable pub played : List (Call ChangeGiven) → List ℕ → List ℕ

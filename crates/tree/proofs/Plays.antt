@@ -14,11 +14,14 @@ use borrow.Author.Tests.{lt-ltb, le-ltb, ltb-true}
 use Rattle.octets.specs.Bytes.{put_at, front, part}
 use Rattle.list.specs.Entry.{access}
 use Rattle.list.specs.List.{check_of, MaybeList}
-use Rattle.list.specs.declared.lists.Reading.{Reading}
-use Rattle.list.specs.declared.lists.Reading.TheVariants.{Done as Read, Refused as Unread}
+use Rattle.std.specs.Prelude.{Result, Ok, Err}
+use Rattle.list.specs.declared.readings.Read.{Read}
+use Rattle.refusal.specs.declared.Fault.{Fault}
 use Rattle.octets.proofs.Places.{split, length_part, put_whole}
 use Rattle.octets.proofs.Tests.{both_true}
 use Rattle.inherit.specs.Compute.{ordinary}
+use Rattle.refusal.specs.declared.Refusal.{Refusal}
+use Rattle.refusal.specs.declared.Refusal.TheVariants as Why
 use Rattle.tree.specs.Model.{short_if}
 use Rattle.tree.specs.General.{tab}
 use Rattle.tree.specs.Held.{held, is_done, parent_in, block_for}
@@ -61,26 +64,26 @@ accepted-told (some s) = refl
 
 -- ---- refusals
 
-pub refused-ends : (r : List ℕ) → Formed r → (k which at : ℕ) (m : Option Tree) → m ≡ none → Ends r (refuse k which at r) m
+pub refused-ends : (r : List ℕ) → Formed r → (k : Refusal) (which at : ℕ) (m : Option Tree) → m ≡ none → Ends r (refuse k which at r) m
 refused-ends r F k which at m e = record { well = F; limits = refl; step-limits = refl; same-settings = refl; size = refl; told = e; stays = λ z. refl }
 
 pub record Refuses (r : List ℕ) (o : Outcome) : Type 0 where
-  pub number : ℕ
+  pub why : Refusal
   pub list : ℕ
   pub offset : ℕ
-  pub is : o ≡ refuse number list offset r
+  pub is : o ≡ refuse why list offset r
 
 refuses-ends : (r : List ℕ) → Formed r → (o : Outcome) (m : Option Tree) → Refuses r o → m ≡ none → Ends r o m
-refuses-ends r F o m x e = subst (λ (y : Outcome). Ends r y m) (sym x.is) (refused-ends r F x.number x.list x.offset m e)
+refuses-ends r F o m x e = subst (λ (y : Outcome). Ends r y m) (sym x.is) (refused-ends r F x.why x.list x.offset m e)
 
 -- a list that is given: what follows, or a refusal
-reading-by : (s : List ℕ) (which : ℕ) (r : List ℕ) (rest : Outcome) (x : Reading) → check_of access s ≡ x → (b : Bool) → is_done x ≡ b
+reading-by : (s : List ℕ) (which : ℕ) (r : List ℕ) (rest : Outcome) (x : Result Read Fault) → check_of access s ≡ x → (b : Bool) → is_done x ≡ b
     → cond b (on_reading_to x which r rest ≡ rest) (Refuses r (on_reading_to x which r rest))
 unfolding on_reading_to
-reading-by s which r rest (Read l n x) e true h = refl
-reading-by s which r rest (Read l n x) e false h = let z : ◌≡◌ {A = ℕ} 0 1 = cc in absurd (omega arith)
-reading-by s which r rest (Unread k at) e true h = let z : ◌≡◌ {A = ℕ} 0 1 = cc in absurd (omega arith)
-reading-by s which r rest (Unread k at) e false h = record { number = k; list = which; offset = at; is = refl }
+reading-by s which r rest (Ok read) e true h = refl
+reading-by s which r rest (Ok read) e false h = let z : ◌≡◌ {A = ℕ} 0 1 = cc in absurd (omega arith)
+reading-by s which r rest (Err fault) e true h = let z : ◌≡◌ {A = ℕ} 0 1 = cc in absurd (omega arith)
+reading-by s which r rest (Err fault) e false h = record { why = fault.why; list = which; offset = fault.at; is = refl }
 
 read_by : (o : MaybeList) (which : ℕ) (r : List ℕ) (rest : Outcome) (b : Bool) → reads o ≡ b
     → cond b (readable_to o which r rest ≡ rest) (Refuses r (readable_to o which r rest))
@@ -89,12 +92,12 @@ read_by none which r rest true h = refl
 read_by none which r rest false h = let z : ◌≡◌ {A = ℕ} 0 1 = cc in absurd (omega arith)
 read_by (some s) which r rest b h = reading-by s which r rest (check_of access s) refl b h
 
-need-by : (t : Bool) (k : ℕ) (r : List ℕ) (rest : Outcome) (b : Bool) → t ≡ b → cond b (need t (refuse k 0 0 r) rest ≡ rest) (Refuses r (need t (refuse k 0 0 r) rest))
+need-by : (t : Bool) (k : Refusal) (r : List ℕ) (rest : Outcome) (b : Bool) → t ≡ b → cond b (need t (refuse k 0 0 r) rest ≡ rest) (Refuses r (need t (refuse k 0 0 r) rest))
 unfolding need
 need-by true k r rest true h = refl
 need-by true k r rest false h = let z : ◌≡◌ {A = ℕ} 0 1 = cc in absurd (omega arith)
 need-by false k r rest true h = let z : ◌≡◌ {A = ℕ} 0 1 = cc in absurd (omega arith)
-need-by false k r rest false h = record { number = k; list = 0; offset = 0; is = refl }
+need-by false k r rest false h = record { why = k; list = 0; offset = 0; is = refl }
 
 -- one test after another
 pub data Passes (r : List ℕ) (o rest : Outcome) : Bool → Type 0 where
@@ -112,16 +115,16 @@ then r o p rest false b (stop x) q = stop x
 pub reads_first : (o : MaybeList) (which : ℕ) (r : List ℕ) (rest : Outcome) → Passes r (readable_to o which r rest) rest (reads o)
 reads_first o which r rest = as-passes r (readable_to o which r rest) rest (reads o) (read_by o which r rest (reads o) refl)
 
-pub need-first : (t : Bool) (k : ℕ) (r : List ℕ) (rest : Outcome) → Passes r (need t (refuse k 0 0 r) rest) rest t
+pub need-first : (t : Bool) (k : Refusal) (r : List ℕ) (rest : Outcome) → Passes r (need t (refuse k 0 0 r) rest) rest t
 need-first t k r rest = as-passes r (need t (refuse k 0 0 r) rest) rest t (need-by t k r rest t refl)
 
 -- what an alteration is given
 pub tested-first : (e : Edit) (r : List ℕ) (rest : Outcome) → Passes r (tested e r rest) rest (fine e)
 unfolding tested fine
-tested-first (list o) r rest = then r _ _ rest (reads o) (short_if o) (reads_first o 2 r (need (short_if o) (refuse 8 0 0 r) rest)) (need-first (short_if o) 8 r rest)
+tested-first (list o) r rest = then r _ _ rest (reads o) (short_if o) (reads_first o 2 r (need (short_if o) (refuse Why.Room 0 0 r) rest)) (need-first (short_if o) Why.Room r rest)
 tested-first (mark m) r rest = on refl
 tested-first (owners o g) r rest =
-    then r _ _ rest (ordinary o) (ordinary g) (need-first (ordinary o) 6 r (need (ordinary g) (refuse 6 0 0 r) rest)) (need-first (ordinary g) 6 r rest)
+    then r _ _ rest (ordinary o) (ordinary g) (need-first (ordinary o) Why.Identity r (need (ordinary g) (refuse Why.Identity 0 0 r) rest)) (need-first (ordinary g) Why.Identity r rest)
 
 -- ---- what a step holds
 
@@ -254,7 +257,7 @@ module _ (r : List ℕ) (F : Formed r) where
 
   change-ends : (i : ℕ) (o : Option (List ℕ)) (m : Option Tree) → Told o m → Ends r (change_ends i r o) m
   unfolding change_ends Told
-  change-ends i none m t = refused-ends r F 8 0 0 m t
+  change-ends i none m t = refused-ends r F Why.Room 0 0 m t
   change-ends i (some w) m t =
       let a : accepted (told_in (held (slot i w))) ≡ true = accepted-told (held (slot i w)) in
       record {
@@ -269,7 +272,7 @@ module _ (r : List ℕ) (F : Formed r) where
 
   undo-done : (o : Option (List ℕ)) (m : Option Tree) → Told o m → Ends r (undo_ends r o) m
   unfolding undo_ends Told
-  undo-done none m t = refused-ends r F 8 0 0 m t
+  undo-done none m t = refused-ends r F Why.Room 0 0 m t
   undo-done (some w) m t =
       record {
         well = t.0;
@@ -344,8 +347,8 @@ module _ (r : List ℕ) (F : Formed r) where
       let go : Outcome = change_to (edit_put i e (objects r)) r in
       let F₁ = facts-formed r F in
       passes-ends (alter_to i e r) go (formed r && (ltb i (objects r) && fine e)) (Next (edit (alter i e)))
-      (then r _ _ go (formed r) (ltb i (objects r) && fine e) (need-first (formed r) 13 r _)
-      (then r _ _ go (ltb i (objects r)) (fine e) (need-first (ltb i (objects r)) 9 r _) (tested-first e r go)))
+      (then r _ _ go (formed r) (ltb i (objects r) && fine e) (need-first (formed r) Why.Tree r _)
+      (then r _ _ go (ltb i (objects r)) (fine e) (need-first (ltb i (objects r)) Why.Object r _) (tested-first e r go)))
       (λ b.
       let t = both_true (ltb i (objects r)) (fine e) (both_true (formed r) (ltb i (objects r) && fine e) b).1 in
       alter-goes i e (ltb-true i (objects r) t.0) t.1)
@@ -395,12 +398,12 @@ module _ (r : List ℕ) (F : Formed r) where
       let same : placed_in (λ j. own_data j r) (objects r) (parent_in nobody new.parent) ≡ placed_in f₀ (objects r) (parent_in nobody new.parent) =
       placed-as (objects r) (parent_in nobody new.parent) (λ j. own_data j r) f₀ (λ j q. sym (f-is j (omega (arith, h.within)))) in
       passes-ends (add_to (object_for new) r) go (formed r && addable (object_limit r) new (objects r) (λ j. own_data j r)) (Next (edit (add new)))
-      (then r _ _ go (formed r) _ (need-first (formed r) 13 r _)
-      (then r _ _ go (placed_in (λ j. own_data j r) (objects r) (parent_in nobody new.parent)) _ (need-first (placed_in (λ j. own_data j r) (objects r) (parent_in nobody new.parent)) 9 r _)
-      (then r _ _ go (ltb (objects r) (object_limit r)) _ (need-first (ltb (objects r) (object_limit r)) 10 r _)
+      (then r _ _ go (formed r) _ (need-first (formed r) Why.Tree r _)
+      (then r _ _ go (placed_in (λ j. own_data j r) (objects r) (parent_in nobody new.parent)) _ (need-first (placed_in (λ j. own_data j r) (objects r) (parent_in nobody new.parent)) Why.Object r _)
+      (then r _ _ go (ltb (objects r) (object_limit r)) _ (need-first (ltb (objects r) (object_limit r)) Why.Full r _)
       (then r _ _ go (reads new.list) _ (reads_first new.list 2 r _)
-      (then r _ _ go (ordinary new.owner) _ (need-first (ordinary new.owner) 6 r _)
-      (then r _ _ go (ordinary new.group) (short_if new.list) (need-first (ordinary new.group) 6 r _) (need-first (short_if new.list) 8 r go)))))))
+      (then r _ _ go (ordinary new.owner) _ (need-first (ordinary new.owner) Why.Identity r _)
+      (then r _ _ go (ordinary new.group) (short_if new.list) (need-first (ordinary new.group) Why.Identity r _) (need-first (short_if new.list) Why.Room r go)))))))
       (λ b. add_goes new (rw same at (both_true (formed r) _ b).1))
       (λ b. next-as (edit (add new)) ∙ add_none (object_limit r) (step_limit r) (settings r) (objects r) f₀ _ _ new (rw (F₁, same) at b))
 
@@ -471,7 +474,7 @@ module _ (r : List ℕ) (F : Formed r) where
       let go : Outcome = undo_ends r (step_taken_back (area r)) in
       let F₁ = facts-formed r F in
       passes-ends (undo_to r) go (formed r && ltb 0 (kept_steps r)) (Next undo)
-      (then r _ _ go (formed r) (ltb 0 (kept_steps r)) (need-first (formed r) 13 r _) (need-first (ltb 0 (kept_steps r)) 11 r go))
+      (then r _ _ go (formed r) (ltb 0 (kept_steps r)) (need-first (formed r) Why.Tree r _) (need-first (ltb 0 (kept_steps r)) Why.NoStep r go))
       (λ b. undo-goes (ltb-true 0 (kept_steps r) (both_true (formed r) (ltb 0 (kept_steps r)) b).1))
       (λ b.
       let c : ltb 0 (kept_steps r) ≡ false = rw F₁ at b in

@@ -16,15 +16,15 @@ use borrow.Author.Tests.{leb-true, lt-ltb}
 use Rattle.octets.specs.Bytes.{front, part}
 use Rattle.octets.proofs.Tests.{both_true, off}
 use Rattle.inherit.specs.Compute.{rule_ok}
+use Rattle.refusal.specs.declared.Refusal.TheVariants as Why
 use Rattle.tree.specs.Model.{Settings, short_if, limits_ok}
 use Rattle.tree.specs.General.{is_some, tab}
 use Rattle.tree.specs.Inner.Else.{or_else}
-use Rattle.tree.specs.declared.Answer.TheVariants.{Done, Refused}
 use Rattle.tree.specs.Held.{held, own_list}
 use Rattle.tree.specs.Room.{object_limit, step_limit, objects, kept_steps, room_for, settings, settings_for, own_data, slot, area, empty_room}
 use Rattle.tree.specs.Formed.{steps_ok, formed}
 use Rattle.octets.specs.Order.{need}
-use Rattle.tree.specs.Calls.{Outcome, on_object, told_as, list_bytes, data_of, copied, start_ok, undo_ends, step_taken_back, start_to, undo_to, list_to, ChangeGiven}
+use Rattle.tree.specs.Calls.{tells, refusal, Outcome, on_object, told_as, list_bytes, data_of, copied, start_ok, undo_ends, step_taken_back, start_to, undo_to, list_to, ChangeGiven}
 use Rattle.tree.specs.Calls.{own_to, data_to}
 use Rattle.tree.proofs.History.{State, Call, edit, undo, Rules, settled, edited, undone as machine-undone, after, start, run, replay, afresh}
 use Rattle.tree.proofs.History.{remains, accepts, positive}
@@ -203,15 +203,15 @@ past-undo n s e qs h = by (remains (rules n e) s qs).left h
     by (suc k) q = refl
 
 -- an undo's answer: 11 where no step is kept; done where it is accepted
-undo-11 : (r : List ℕ) → formed r ≡ true → kept_steps r ≡ 0 → (undo_to r).answer ≡ Refused 11 0 0
+undo-11 : (r : List ℕ) → formed r ≡ true → kept_steps r ≡ 0 → (undo_to r).answer ≡ refusal Why.NoStep 0 0
 unfolding undo_to need
 undo-11 r h k = rw (h, k) refl
 
-pub undo-0 : (r : List ℕ) → formed r ≡ true → 0 < kept_steps r → accepted (undo_to r).answer ≡ true → (undo_to r).answer ≡ Done 0 false 0
+pub undo-0 : (r : List ℕ) → formed r ≡ true → 0 < kept_steps r → accepted (undo_to r).answer ≡ true → (undo_to r).answer ≡ tells 0 false 0
 unfolding undo_to need undo_ends
 undo-0 r h k a = rw (h, lt-ltb 0 (kept_steps r) k) (by (step_taken_back (area r)) (rw (h, lt-ltb 0 (kept_steps r) k) at a))
   where
-    by : (o : Option (List ℕ)) → accepted (undo_ends r o).answer ≡ true → (undo_ends r o).answer ≡ Done 0 false 0
+    by : (o : Option (List ℕ)) → accepted (undo_ends r o).answer ≡ true → (undo_ends r o).answer ≡ tells 0 false 0
     by none b = let z : ◌≡◌ {A = ℕ} 0 1 = cc in absurd (omega arith)
     by (some w) b = refl
 
@@ -223,7 +223,7 @@ shown-kept r = length-tab (kept_steps r) _
 pub record ReadBack (r out : List ℕ) (i : ℕ) : Type 0 where
   pub computed-list : list_to i r out ≡ copied (told_as (get_or (shown r).lists i none)) (list_bytes (get_or (shown r).lists i none)) out
   pub own-list : own_to i r out ≡ copied (told_as (own_list (get_or (shown r).own i []))) (list_bytes (own_list (get_or (shown r).own i []))) out
-  pub own-data : data_to i r out ≡ copied (Done (length (data_of (get_or (shown r).own i []))) true 0) (data_of (get_or (shown r).own i [])) out
+  pub own-data : data_to i r out ≡ copied (tells (length (data_of (get_or (shown r).own i []))) true 0) (data_of (get_or (shown r).own i [])) out
 
 read-shown : (r out : List ℕ) (i : ℕ) → formed r ≡ true → i < objects r → ReadBack r out i
 unfolding list_to own_to data_to on_object need shown
@@ -244,8 +244,8 @@ pub record Reached (n s : ℕ) (e r : List ℕ) (qs : List (Call ChangeGiven)) :
   pub steps-left : kept_steps (played qs r) ≡ (remains (rules n e) s qs).left
   pub answered : (q : Call ChangeGiven) → accepted (call_to q (played qs r)).answer ≡ accepts (rules n e) s (remains (rules n e) s qs) q
   pub refused-stays : (q : Call ChangeGiven) → accepted (call_to q (played qs r)).answer ≡ false → (call_to q (played qs r)).bytes ≡ played qs r
-  pub undo-refused : (remains (rules n e) s qs).left ≡ 0 → (undo_to (played qs r)).answer ≡ Refused 11 0 0
-  pub undo-done : 0 < (remains (rules n e) s qs).left → (undo_to (played qs r)).answer ≡ Done 0 false 0
+  pub undo-refused : (remains (rules n e) s qs).left ≡ 0 → (undo_to (played qs r)).answer ≡ refusal Why.NoStep 0 0
+  pub undo-done : 0 < (remains (rules n e) s qs).left → (undo_to (played qs r)).answer ≡ tells 0 false 0
   pub read_back : (i : ℕ) (out : List ℕ) → i < objects (played qs r) → ReadBack (played qs r) out i
 
 module _ (t : Settings) (r : List ℕ) where
@@ -296,13 +296,13 @@ module _ (t : Settings) (r : List ℕ) where
     pub size_is : length (start_to t r).bytes ≡ length r
 
   abbrev pub empty_tree : Outcome
-  empty_tree = record { answer = Done 0 false 0; bytes = front (empty_room t) r }
+  empty_tree = record { answer = tells 0 false 0; bytes = front (empty_room t) r }
 
   pub start-passes : Passes r (start_to t r) empty_tree (start_ok t.object-limit t.step-limit t.rule (length r) && (reads t.default && short_if t.default))
   unfolding start_to
   start-passes =
-      then r _ _ empty_tree (start_ok t.object-limit t.step-limit t.rule (length r)) _ (need-first (start_ok t.object-limit t.step-limit t.rule (length r)) 12 r _)
-      (then r _ _ empty_tree (reads t.default) (short_if t.default) (reads_first t.default 3 r _) (need-first (short_if t.default) 8 r empty_tree))
+      then r _ _ empty_tree (start_ok t.object-limit t.step-limit t.rule (length r)) _ (need-first (start_ok t.object-limit t.step-limit t.rule (length r)) Why.Rule r _)
+      (then r _ _ empty_tree (reads t.default) (short_if t.default) (reads_first t.default 3 r _) (need-first (short_if t.default) Why.Room r empty_tree))
 
   pub begun : accepted (start_to t r).answer ≡ true → Begun
   unfolding first

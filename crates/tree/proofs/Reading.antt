@@ -13,11 +13,10 @@ use Rattle.list.specs.List.{MaybeList}
 use Rattle.octets.specs.Order.{need}
 use Rattle.octets.specs.Bytes.{front, part}
 use Rattle.list.specs.Answer.{Values, done, refused}
-use Rattle.tree.specs.declared.Answer.{Answer}
-use Rattle.tree.specs.declared.Answer.TheVariants.{Done}
+use Rattle.refusal.specs.declared.Refusal.TheVariants as Why
 use Rattle.tree.specs.Held.{held, block_ok, parent_byte_in, parent_in, kind_byte, mark_byte, type_of, owner_of, group_of, own_list}
 use Rattle.tree.specs.Room.{objects, kept_steps, own_data, slot}
-use Rattle.tree.specs.Calls.{Outcome, refuse, told_as, on_object, answer_values, list_bytes, copied, data_of, list_to, own_to, data_to, counts_to}
+use Rattle.tree.specs.Calls.{tells, Answer, Outcome, refuse, told_as, on_object, answer_values, list_bytes, copied, data_of, list_to, own_to, data_to, counts_to}
 use Rattle.tree.specs.Model as Model
 use Rattle.tree.specs.Shown.{object_in, objects_in, read_with}
 use Rattle.tree.proofs.Blocks.{type-part, block-sound}
@@ -83,7 +82,7 @@ answered b c v = need b (refused 9 0 0) (need c (refused 8 0 0) v)
 module _ (r : List ℕ) (F : Formed r) (i : ℕ) (a : Answer) (v : Values) (b b' out : List ℕ) (d : (answer_values a).number ≡ 0)
     (same : i < objects r → (answer_values a ≡ v) × (b ≡ b')) where
   by_tests : (x y : Bool) → answer_values a ≡ v → b ≡ b'
-      → ReadAs (need x (refuse 9 0 0 out) (need y (refuse 8 0 0 out) (record { answer = a; bytes = front b out })))
+      → ReadAs (need x (refuse Why.Object 0 0 out) (need y (refuse Why.Room 0 0 out) (record { answer = a; bytes = front b out })))
       (answered x y v) (cond (Model.accepted (answered x y v)) (front b' out) out)
   unfolding need
   by_tests true true ev eb =
@@ -92,24 +91,24 @@ module _ (r : List ℕ) (F : Formed r) (i : ℕ) (a : Answer) (v : Values) (b b'
   by_tests true false ev eb = record { answer-is = refl; bytes-are = refl }
   by_tests false y ev eb = record { answer-is = refl; bytes-are = refl }
 
-  no-object : (y : Bool) (o : Outcome) → ReadAs (need false (refuse 9 0 0 out) o) (answered false y v) (cond (Model.accepted (answered false y v)) (front b' out) out)
+  no-object : (y : Bool) (o : Outcome) → ReadAs (need false (refuse Why.Object 0 0 out) o) (answered false y v) (cond (Model.accepted (answered false y v)) (front b' out) out)
   unfolding need
   no-object y o = record { answer-is = refl; bytes-are = refl }
 
   object-by : (x : Bool) → ltb i (objects r) ≡ x → let w = answered x (leb (length b') (length out)) v in
-      ReadAs (need x (refuse 9 0 0 out) (copied a b out)) w (cond (Model.accepted w) (front b' out) out)
+      ReadAs (need x (refuse Why.Object 0 0 out) (copied a b out)) w (cond (Model.accepted w) (front b' out) out)
   unfolding copied
   object-by true e =
       let s = same (ltb-true i (objects r) e) in
       subst (λ (z : List ℕ). let w = answered true (leb (length z) (length out)) v in
-      ReadAs (need true (refuse 9 0 0 out) (copied a b out)) w (cond (Model.accepted w) (front b' out) out)) s.1
+      ReadAs (need true (refuse Why.Object 0 0 out) (copied a b out)) w (cond (Model.accepted w) (front b' out) out)) s.1
       (by_tests true (leb (length b) (length out)) s.0 s.1)
   object-by false e = no-object (leb (length b') (length out)) (copied a b out)
 
   read_as : let w = answered (ltb i (length (objects_in r))) (leb (length b') (length out)) v in
       ReadAs (on_object r i out (copied a b out)) w (cond (Model.accepted w) (front b' out) out)
   unfolding on_object
-  read_as = rw (need-yes 13 out (need (ltb i (objects r)) (refuse 9 0 0 out) (copied a b out)) (facts-formed r F), objects-length r) (object-by (ltb i (objects r)) refl)
+  read_as = rw (need-yes Why.Tree out (need (ltb i (objects r)) (refuse Why.Object 0 0 out) (copied a b out)) (facts-formed r F), objects-length r) (object-by (ltb i (objects r)) refl)
 
 -- each part, where the room's lists are the fresh ones
 module _ (r : List ℕ) (F : Formed r) (t : Model.Settings)
@@ -130,7 +129,7 @@ module _ (r : List ℕ) (F : Formed r) (t : Model.Settings)
   part-as Model.other-data i out =
       let b = own_data i r in
       let m = Model.data_bytes (Model.object (objects_in r) i) in
-      read_as r F i (Done (length (data_of b)) true 0) (done (length m) 1 0 0) (data_of b) m out refl
+      read_as r F i (tells (length (data_of b)) true 0) (done (length m) 1 0 0) (data_of b) m out refl
       (λ h.
       let e : data_of b ≡ Model.data_bytes (Model.object (objects_in r) i) = rw (object-at r i h) (data_is b (own-long r F.head i h) (F.owned i h).0) in
       (rw e refl, e))

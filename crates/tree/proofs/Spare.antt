@@ -19,7 +19,7 @@ use Rattle.tree.specs.Shown.{settings_in, settings_from, objects_in, alteration,
 use Rattle.tree.specs.Spare.{bare_object, bare_settings, bare_edit, bare_given, bare_request, list_given}
 use Rattle.tree.proofs.Likeness.{length-map}
 use Rattle.tree.proofs.Modelled.{objects-length}
-use Rattle.tree.proofs.Numbers.{accepted-number, start-numbered}
+use Rattle.tree.proofs.Numbers.{accepted-number}
 use Rattle.tree.proofs.Reaches.{begun}
 use Rattle.tree.proofs.Demand3.{Shows, start-as, demand3}
 use Rattle.tree.proofs.Bare.{is_own, change_gives, bare_change, bare_call, call_gives, reads_own, bare_tree, ShortTree, ShortCalls}
@@ -111,7 +111,7 @@ some_same h = cc
 
 module _ (t : Settings) (r : List ℕ) (h : Model.accepted (answer_values (start_to t r).answer) ≡ true) (qs : List Request) (g : ShortLists qs) where
   d : short_if t.default ≡ true
-  d = (begun t r (sym (accepted-number (start_to t r).answer (start-numbered t r)) ∙ h)).short-default
+  d = (begun t r (sym (accepted-number (start_to t r).answer) ∙ h)).short-default
 
   abbrev tree : Model.Tree
   tree = Model.after (Model.begun (settings_from t)) (map (meant (length r)) qs)

@@ -1,19 +1,19 @@
--- Tests and the facts that they stand for: the head of a room, a well-formed room, and the laws of the two loops.
-use mathlib.Core.Path.{◌≡◌, refl, sym, ◌∙◌}
+-- Tests and the facts that they stand for: the head of a room, a well-formed room, and the laws of the loop over the steps.
+use mathlib.Core.Path.{◌≡◌, sym, ◌∙◌}
 use mathlib.Core.List.{List}
 use mathlib.Core.Bool.{Bool, true, false, cond, ◌&&◌}
-use Prim.Native.Nat.{ℕ, zero, suc, ◌+◌, ◌-◌, ◌≤◌, ◌<◌}
-use native.Mathlib.Numerals.{add-one}
-use native.Mathlib.Decide.{ℕ_discrete}
+use mathlib.Core.Option.{some}
+use Prim.Native.Nat.{ℕ, suc, ◌+◌, ◌-◌, ◌≤◌, ◌<◌}
 use native.Mathlib.Omega.{arith}
 use lib.ListN.{length, drop, length-take, length-drop}
 use lib.Dec.{eqb}
 use borrow.Author.Tests.{leb-true, le-leb}
 use Rattle.octets.specs.Bytes.{le, part}
 use Rattle.octets.proofs.Places.{part-most}
-use Rattle.octets.proofs.Tests.{both_true, false-or}
+use Rattle.octets.proofs.Tests.{both_true}
 use Rattle.tree.specs.General.{every}
-use Rattle.tree.specs.Held.{bytes_in}
+use Rattle.list.specs.List.{lent}
+use Rattle.tree.specs.Held.{has_list, bytes_in, held}
 use Rattle.tree.specs.Room.{object_limit, objects, kept_steps, settings, own_data, step, step_tag}
 use Rattle.tree.specs.Formed.{counts_ok, settings_ok, object_ok, step_ok, standing, steps_ok, formed}
 use Rattle.tree.specs.Inner.Heads.{Head}
@@ -60,9 +60,6 @@ head-said r h =
       le-leb _ _ h.room-enough,
     )
 
-pub head-no : (r : List ℕ) → (Head r → ⊥) → false ≡ counts_ok r
-head-no r f = sym (false-or (counts_ok r) (λ e. f (head-says r e)))
-
 -- ---- a well-formed room
 
 pub record Forms (r : List ℕ) : Type 0 where
@@ -82,22 +79,6 @@ formed-parts r e =
 pub formed-from : (r : List ℕ) → Forms r → formed r ≡ true
 unfolding formed
 formed-from r f = rw (f.head_ok, f.settings-ok, f.objects-ok) f.steps-ok
-
--- ---- every number below n
-
-pub every_more : (t : ℕ → Bool) (i : ℕ) → every t i ≡ true → t i ≡ true → every t (i + 1) ≡ true
-unfolding every
-every_more t i a b = rw (add-one, a) b
-
-both-no : (a : Bool) → (a && false) ≡ false
-both-no true = refl
-both-no false = refl
-
--- a test that fails below n
-pub every-no : (t : ℕ → Bool) (n i : ℕ) → i < n → t i ≡ false → every t n ≡ false
-unfolding every
-every-no t zero i h e = absurd (omega arith)
-every-no t (suc n) i h e = elim (ℕ_discrete i n) [ yes p ↦ rw (← p, e) (both-no (every t i)) | no q ↦ rw (every-no t n i (omega arith) e) refl ]
 
 -- ---- the steps
 
@@ -139,3 +120,10 @@ part-within a n l = simp (length-take, length-drop) (omega arith)
 pub bytes_most : (s : List ℕ) → length (bytes_in s) ≤ 1024
 unfolding bytes_in
 bytes_most s = omega (arith, part-most 3 1024 s, part-within 0 (le 2 (drop 1 s)) (part 3 1024 s))
+
+pub held-most : (s b : List ℕ) → some b ≡ held s → length b ≤ 1024
+held-most s b e = by (has_list s) e
+  where
+    by : (h : Bool) → some b ≡ lent h (bytes_in s) → length b ≤ 1024
+    by true q = let z : b ≡ bytes_in s = cc in rw z (bytes_most s)
+    by false q = let z : ◌≡◌ {A = ℕ} 0 1 = cc in absurd (omega arith)

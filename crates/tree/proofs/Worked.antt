@@ -11,9 +11,8 @@ use Rattle.octets.specs.Order.{need}
 use Rattle.octets.specs.Bytes.{le, spell, same_bytes, guid_at, part, among}
 use Rattle.list.specs.Identity.{length_of_sid, is_sid, placeholder_of, identity_of}
 use Rattle.list.specs.Entry.{plain_of, object_of, object_kind, kind_ok, flags_ok, head_of, word_after, entry_bytes, conditional_of, conditional_kind, expression_ok, tail_long, size_ok, entry_of}
-use Rattle.list.specs.List.{rev_ok, header_ok, cut, entries_of, head_bytes, render, on_good, walk_of, finish, check_of, MaybeList, lent}
+use Rattle.list.specs.List.{rev_ok, header_ok, cut, entries_of, head_bytes, render, on_good, walk_of, finish, check_of, MaybeList}
 use Rattle.inherit.specs.Asked.{Asked, entries_if, types_ok, types_of}
-use Rattle.inherit.specs.Inner.Source.{given}
 use Rattle.inherit.specs.Copies.{any_heritable, type_applies, pass, kept_flags, takes_first, first_part, takes_second, second_part, from_parent, own_entries, from_creator}
 use Rattle.inherit.specs.Last.{in_place, mapped, mends, mended, last_mask, resolved, last_of, last_step}
 use Rattle.inherit.specs.Branch.{inherited_bit, with_creator, from_default, branch, result_of}
@@ -26,7 +25,6 @@ use Rattle.tree.specs.Room.{room_for, room_of, settings_for}
 use Rattle.tree.specs.Formed.{formed, counts_ok}
 use Rattle.tree.specs.Work.{computed}
 use Rattle.tree.specs.Inner.Asking.{settings_asked}
-use Rattle.tree.specs.Calls.{list_bytes}
 use Rattle.tree.proofs.Replay.{from_root, gather, work}
 
 -- ---- what a computation of a tree opens, layer by layer: to unfold a name here is to unfold what its line names
@@ -76,15 +74,9 @@ nothing = refl
 
 -- ---- the computation's settings
 
-lent_back : (p : MaybeList) → lent (given p) (list_bytes p) ≡ p
-unfolding list_bytes
-lent_back none = refl
-lent_back (some s) = refl
-
 -- what is asked, taken apart as the public call takes it, is asked again
-pub asked-again : (a : Asked)
-    → asked_by a.rule (settings_asked a) a.mapping (list_bytes a.parent) (list_bytes a.creator) (list_bytes a.default) a.types a.owner a.group ≡ a
-asked-again a = rw (lent_back a.parent, lent_back a.creator, lent_back a.default) refl
+pub asked-again : (a : Asked) → asked_by a.rule (settings_asked a) a.mapping a.parent a.creator a.default a.types a.owner a.group ≡ a
+asked-again a = refl
 
 -- ---- the tree of RULES 6.7's script
 

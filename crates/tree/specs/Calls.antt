@@ -1,31 +1,43 @@
 -- What each call answers, and what the lent bytes hold afterwards, for any bytes handed in.
-use Rattle.std.specs.Prelude.{ℕ, ◌+◌, ◌-◌, ◌*◌, min, ◌≡◌, List, [], ◌∷◌, ◌++◌, Bool, true, false, not, cond, ◌&&◌, length, take, drop, set, eqb, leb, ltb}
+use Rattle.std.specs.Prelude.{ℕ, ◌+◌, ◌-◌, ◌*◌, min, ◌≡◌, List, [], ◌∷◌, ◌++◌, Bool, true, false, not, cond, ◌&&◌, length, take, drop, set, eqb, leb, ltb, Result, Ok, Err}
 use Rattle.std.proofs.Math.Option.{Option, none, some}
 use Rattle.octets.specs.Order.{need}
 use Rattle.octets.specs.Bytes.{part, put_at, front, guid_at}
 use Rattle.list.specs.Entry.{access}
 use Rattle.list.specs.List.{check_of, count_of, MaybeList}
 use Rattle.list.specs.Answer.{Values, done, refused}
-use Rattle.list.specs.declared.lists.Reading.{Reading}
-use Rattle.list.specs.declared.lists.Reading.TheVariants.{Done as Read, Refused as Unread}
+use Rattle.list.specs.declared.readings.Read.{Read}
 use Rattle.inherit.specs.Compute.{ordinary, rule_ok}
-use Rattle.tree.specs.declared.Answer.{Answer}
-use Rattle.tree.specs.declared.Answer.TheVariants.{Done, Refused}
+use Rattle.refusal.specs.Numbers.{number_of}
+use Rattle.refusal.specs.declared.Fault.{Fault}
+use Rattle.refusal.specs.declared.Refusal.{Refusal}
+use Rattle.refusal.specs.declared.Refusal.TheVariants as Why
+use Rattle.tree.specs.declared.Done.{Done}
 use Rattle.tree.specs.Model.{Settings, Object, short_if, limits_ok}
 use Rattle.tree.specs.Held.{held, slot_for, id_for, parent_in, block_for, yes, owner_of, group_of, own_list}
 use Rattle.tree.specs.Room.{object_limit, step_limit, objects, kept_steps, own_at, steps_at, room_for, own_data, slot, step, step_object, step_data, area, empty_room}
 use Rattle.tree.specs.Formed.{placed_in, standing, formed}
 use Rattle.tree.specs.Work.{reworked}
 
+-- what a call answers: done, with what it tells, or a refusal
+abbrev pub Answer : Type 0
+Answer = Result Done Fault
+
+abbrev pub tells : ℕ → Bool → ℕ → Answer
+tells len is n = Ok (record { length = len; present = is; count = n })
+
+abbrev pub refusal : Refusal → ℕ → ℕ → Answer
+refusal why which at = Err (record { why = why; list = which; at = at })
+
 -- the number and values (RULES 4.2) for each case
 abbrev pub answer_values : Answer → Values
-answer_values (Done len is n) = done len (yes is) n 0
-answer_values (Refused k which at) = refused k which at
+answer_values (Ok d) = done d.length (yes d.present) d.count 0
+answer_values (Err f) = refused (number_of f.why) f.list f.at
 
 -- a refusal, and no answer that is done
 abbrev pub is_refused : Answer → Bool
-is_refused (Done len is n) = false
-is_refused (Refused k which at) = true
+is_refused (Ok d) = false
+is_refused (Err f) = true
 
 -- the answer a has the values v: it is a refusal where their number isn't 0
 pub record Says (a : Answer) (v : Values) : Type 0 where
@@ -43,13 +55,13 @@ pub record Promised (o : Outcome) (a : Answer) (after : List ℕ) : Type 0 where
   pub bytes : after ≡ o.bytes
 
 -- a refusal leaves the bytes as they were
-abbrev pub refuse : ℕ → ℕ → ℕ → List ℕ → Outcome
-refuse k which at r = record { answer = Refused k which at; bytes = r }
+abbrev pub refuse : Refusal → ℕ → ℕ → List ℕ → Outcome
+refuse why which at r = record { answer = refusal why which at; bytes = r }
 
 -- a list that is present reads as done, or its refusal concerns list `which`
-unfoldable pub on_reading_to : Reading → ℕ → List ℕ → Outcome → Outcome
-on_reading_to (Read len n end) which r rest = rest
-on_reading_to (Unread k at) which r rest = refuse k which at r
+unfoldable pub on_reading_to : Result Read Fault → ℕ → List ℕ → Outcome → Outcome
+on_reading_to (Ok read) which r rest = rest
+on_reading_to (Err fault) which r rest = refuse fault.why which fault.at r
 
 unfoldable pub readable_to : MaybeList → ℕ → List ℕ → Outcome → Outcome
 readable_to none which r rest = rest
@@ -57,12 +69,12 @@ readable_to (some s) which r rest = on_reading_to (check_of access s) which r re
 
 -- a list, possibly absent, in an answer
 unfoldable pub told_as : MaybeList → Answer
-told_as none = Done 0 false 0
-told_as (some s) = Done (length s) true (count_of s)
+told_as none = tells 0 false 0
+told_as (some s) = tells (length s) true (count_of s)
 
 -- the calls that name an object: 13, 9; x is what is lent to be changed, which a refusal leaves
 unfoldable pub on_object : List ℕ → ℕ → List ℕ → Outcome → Outcome
-on_object r i x rest = need (formed r) (refuse 13 0 0 x) (need (ltb i (objects r)) (refuse 9 0 0 x) rest)
+on_object r i x rest = need (formed r) (refuse Why.Tree 0 0 x) (need (ltb i (objects r)) (refuse Why.Object 0 0 x) rest)
 
 -- ---- the steps, the latest first
 
@@ -112,12 +124,12 @@ step_taken_back w = reworked_with (own_at (step_object (latest w))) (step_data (
 
 -- the end of a change of object i: its computed list; of an undo: zeros
 unfoldable pub change_ends : ℕ → List ℕ → Option (List ℕ) → Outcome
-change_ends i r none = refuse 8 0 0 r
+change_ends i r none = refuse Why.Room 0 0 r
 change_ends i r (some w) = record { answer = told_as (held (slot i w)); bytes = front w r }
 
 unfoldable pub undo_ends : List ℕ → Option (List ℕ) → Outcome
-undo_ends r none = refuse 8 0 0 r
-undo_ends r (some w) = record { answer = Done 0 false 0; bytes = front w r }
+undo_ends r none = refuse Why.Room 0 0 r
+undo_ends r (some w) = record { answer = tells 0 false 0; bytes = front w r }
 
 -- both, on a room whose tests are passed
 abbrev pub change_to : Put → List ℕ → Outcome
@@ -135,10 +147,10 @@ start_ok n s rule room = limits_ok n s && (rule_ok rule && leb (room_for n s) ro
 -- start: 12, then the default list by 1 to 5 or 15, then 8
 unfoldable pub start_to : Settings → List ℕ → Outcome
 start_to t r =
-    need (start_ok t.object-limit t.step-limit t.rule (length r)) (refuse 12 0 0 r)
+    need (start_ok t.object-limit t.step-limit t.rule (length r)) (refuse Why.Rule 0 0 r)
     (readable_to t.default 3 r
-    (need (short_if t.default) (refuse 8 0 0 r)
-    (record { answer = Done 0 false 0; bytes = front (empty_room t) r })))
+    (need (short_if t.default) (refuse Why.Room 0 0 r)
+    (record { answer = tells 0 false 0; bytes = front (empty_room t) r })))
 
 -- what an add is given, and the object that it means: FFFFFFFF is no parent, and a type has sixteen bytes
 pub record New : Type 0 where
@@ -172,13 +184,13 @@ add_put o n = record { tag = 1; object = n; place = 0; bytes = block_for o; stan
 -- add: 13, 9, 10, 1 to 5 or 15, 6, 8
 unfoldable pub add_to : Object → List ℕ → Outcome
 add_to o r =
-    need (formed r) (refuse 13 0 0 r)
-    (need (placed_in (λ j. own_data j r) (objects r) o.parent) (refuse 9 0 0 r)
-    (need (ltb (objects r) (object_limit r)) (refuse 10 0 0 r)
+    need (formed r) (refuse Why.Tree 0 0 r)
+    (need (placed_in (λ j. own_data j r) (objects r) o.parent) (refuse Why.Object 0 0 r)
+    (need (ltb (objects r) (object_limit r)) (refuse Why.Full 0 0 r)
     (readable_to o.list 2 r
-    (need (ordinary o.owner) (refuse 6 0 0 r)
-    (need (ordinary o.group) (refuse 6 0 0 r)
-    (need (short_if o.list) (refuse 8 0 0 r)
+    (need (ordinary o.owner) (refuse Why.Identity 0 0 r)
+    (need (ordinary o.group) (refuse Why.Identity 0 0 r)
+    (need (short_if o.list) (refuse Why.Room 0 0 r)
     (change_to (add_put o (objects r)) r)))))))
 
 -- what a change alters in an object's own data: its list, its mark, or its owner and group
@@ -209,9 +221,9 @@ edit_put i e n = record { tag = 2; object = i; place = edit_at e; bytes = edit_b
 
 -- the tests of what is given: 1 to 5 or 15, 6, 8
 unfoldable pub tested : Edit → List ℕ → Outcome → Outcome
-tested (list o) r rest = readable_to o 2 r (need (short_if o) (refuse 8 0 0 r) rest)
+tested (list o) r rest = readable_to o 2 r (need (short_if o) (refuse Why.Room 0 0 r) rest)
 tested (mark m) r rest = rest
-tested (owners o g) r rest = need (ordinary o) (refuse 6 0 0 r) (need (ordinary g) (refuse 6 0 0 r) rest)
+tested (owners o g) r rest = need (ordinary o) (refuse Why.Identity 0 0 r) (need (ordinary g) (refuse Why.Identity 0 0 r) rest)
 
 -- any other change: 13, 9, 1 to 5 or 15, 6, 8
 unfoldable pub alter_to : ℕ → Edit → List ℕ → Outcome
@@ -219,7 +231,7 @@ alter_to i e r = on_object r i r (tested e r (change_to (edit_put i e (objects r
 
 -- undo: 13, 11, 8
 unfoldable pub undo_to : List ℕ → Outcome
-undo_to r = need (formed r) (refuse 13 0 0 r) (need (ltb 0 (kept_steps r)) (refuse 11 0 0 r) (take_back_to r))
+undo_to r = need (formed r) (refuse Why.Tree 0 0 r) (need (ltb 0 (kept_steps r)) (refuse Why.NoStep 0 0 r) (take_back_to r))
 
 -- ---- reading back: 13, 9, 8
 
@@ -230,7 +242,7 @@ list_bytes (some s) = s
 
 -- bytes on the front of what is lent for them
 unfoldable pub copied : Answer → List ℕ → List ℕ → Outcome
-copied a b out = need (leb (length b) (length out)) (refuse 8 0 0 out) (record { answer = a; bytes = front b out })
+copied a b out = need (leb (length b) (length out)) (refuse Why.Room 0 0 out) (record { answer = a; bytes = front b out })
 
 -- a computed list, and an own list
 unfoldable pub list_to : ℕ → List ℕ → List ℕ → Outcome
@@ -244,8 +256,8 @@ unfoldable pub data_of : List ℕ → List ℕ
 data_of b = part 0 19 b ++ ((length (owner_of b) ∷ owner_of b) ++ (length (group_of b) ∷ group_of b))
 
 unfoldable pub data_to : ℕ → List ℕ → List ℕ → Outcome
-data_to i r out = on_object r i out (copied (Done (length (data_of (own_data i r))) true 0) (data_of (own_data i r)) out)
+data_to i r out = on_object r i out (copied (tells (length (data_of (own_data i r))) true 0) (data_of (own_data i r)) out)
 
 -- how many objects stand and how many steps are kept
 unfoldable pub counts_to : List ℕ → Answer
-counts_to r = cond (formed r) (Done (objects r) true (kept_steps r)) (Refused 13 0 0)
+counts_to r = cond (formed r) (tells (objects r) true (kept_steps r)) (refusal Why.Tree 0 0)

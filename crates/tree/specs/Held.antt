@@ -1,11 +1,12 @@
 -- What the parts of a room hold (docs/ROOM.md): a slot, an identity, own data of an object.
-use Rattle.std.specs.Prelude.{ℕ, ◌-◌, List, [], ◌∷◌, ◌++◌, Bool, true, false, cond, ◌&&◌, ◌||◌, length, get_or, drop, replicate, eqb, leb}
+use Rattle.std.specs.Prelude.{ℕ, ◌-◌, List, [], ◌∷◌, ◌++◌, Bool, true, false, cond, ◌&&◌, ◌||◌, length, get_or, drop, replicate, eqb, leb, Result, Ok, Err}
 use Rattle.std.proofs.Math.Option.{Option, none, some}
 use Rattle.octets.specs.Bytes.{le, spell, part, same_bytes, guid_at}
 use Rattle.list.specs.Entry.{access}
 use Rattle.list.specs.List.{check_of, MaybeList, lent}
-use Rattle.list.specs.declared.lists.Reading.{Reading}
-use Rattle.list.specs.declared.lists.Reading.TheVariants.{Done, Refused}
+use Rattle.list.specs.declared.readings.Read.{Read}
+use Rattle.refusal.specs.declared.Fault.{Fault}
+pub use Rattle.inherit.specs.Asked.{lent_list}
 use Rattle.inherit.specs.Compute.{ordinary}
 use Rattle.tree.specs.Model.{Object, parent_byte}
 
@@ -28,9 +29,9 @@ slot_for none = replicate 1027 0
 slot_for (some s) = 1 ∷ (spell 2 (length s) ++ (s ++ replicate (1024 - length s) 0))
 
 -- a list reads as done
-abbrev pub is_done : Reading → Bool
-is_done (Done len n end) = true
-is_done (Refused k at) = false
+abbrev pub is_done : Result Read Fault → Bool
+is_done (Ok r) = true
+is_done (Err fault) = false
 
 -- absent, or a list of at most 1,024 bytes that reads as done
 unfoldable pub slot_ok : List ℕ → Bool

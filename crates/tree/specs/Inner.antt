@@ -3,3 +3,5 @@ pub mod Faults
 pub mod Asking
 pub mod Heads
 pub mod Else
+pub mod Tags
+pub mod Puts

@@ -1,23 +1,28 @@
 // Changes and undo: made on a copy of the room's area, which takes its place where every list could be worked out.
-ghost use Rattle.std.specs.Prelude.{◌≡◌, true, ◌+◌, ◌≤◌, ◌<◌, length};
+ghost use Rattle.std.specs.Prelude.{◌≡◌, Ok, ◌+◌, ◌≤◌, ◌<◌, length};
 ghost use Rattle.std.proofs.Math.Option.{some};
-ghost use Rattle.tree.specs.General.{is_some};
+ghost use Rattle.tree.specs.Inner.Else.{worked_out};
 ghost use Rattle.tree.specs.Room.{object_limit, step_limit, kept_steps, step_object, room_for, area};
 ghost use Rattle.tree.specs.Inner.Heads.{Head};
+ghost use Rattle.tree.specs.Inner.Puts.{put_of};
 ghost use Rattle.tree.specs.Calls.{changed, latest, step_taken_back, change_to, take_back_to};
 
-use crate::Answer;
 use crate::formed::standing;
 use crate::held::{number_in, told};
-use crate::places::{LONGEST_LIST, OBJECT, OBJECTS_AT, OWN_DATA, STEP, STEP_DATA_AT, slot, step};
+use crate::places::{OBJECT, OBJECTS_AT, OWN_DATA, STEP, STEP_DATA_AT, slot, step};
+use crate::puts::Put;
 use crate::steps::{pop, push};
 use crate::work::settle;
+use crate::{Done, TELLS_NOTHING};
 use octets::part_of;
+use refusal::{Fault, Refusal};
 
 // The room of the largest tree, and of one of 16 objects and 16 steps, as scripts have it.
 const LARGEST: usize = 218456;
 
 const SMALL: usize = 55400;
+
+// `Head` stands in each contract below: a type over the lent room would be taken apart where the copy takes the area's place.
 
 // How much of the room its limits take up.
 fn area_of(r: &[u8]) -> usize
@@ -26,169 +31,104 @@ fn area_of(r: &[u8]) -> usize
     OBJECTS_AT + number_in(r, 0) * OBJECT + number_in(r, 1) * STEP
 }
 
-// The room's area to w, with object i changed.
-fn change_copy(
-    r: &[u8],
-    w: &mut [u8],
-    out: &mut [u8],
-    tag: u8,
-    i: usize,
-    at: usize,
-    b: &[u8],
-    n: usize,
-) -> bool
-    requires head { Head r.now × ((length w.old ≡ room_for (object_limit r.now) (step_limit r.now)) × (length out.old ≡ 1024)) }
-    requires i_bound { (i < object_limit r.now) × ((n ≤ object_limit r.now) × (at + length b.now ≤ 1184)) }
-    ensures { (result ≡ is_some (changed (record { tag = tag; object = i; place = at; bytes = b.now; standing = n }) (area r.now))) × ((result ≡ true → changed (record { tag = tag; object = i; place = at; bytes = b.now; standing = n }) (area r.now) ≡ some w.new)) }
+// The room's area to w, with the change made.
+fn change_copy(r: &[u8], w: &mut [u8], p: Put) -> Result<(), Refusal>
+    requires head { Head r.now × (length w.old ≡ room_for (object_limit r.now) (step_limit r.now)) }
+    requires within { (p.object < object_limit r.now) × (p.standing ≤ object_limit r.now) }
+    ensures { (result ≡ worked_out (changed (put_of p.entry) (area r.now))) × ((result ≡ Ok tt → changed (put_of p.entry) (area r.now) ≡ some w.new)) }
 {
-    push(r, w, tag, i);
-    settle(w, out, OBJECTS_AT + i * OBJECT + at, b, n)
-}
-
-fn change_in(
-    r: &mut [u8],
-    w: &mut [u8],
-    out: &mut [u8],
-    tag: u8,
-    i: usize,
-    at: usize,
-    b: &[u8],
-    n: usize,
-) -> Answer
-    requires head { Head r.old × ((length w.old ≡ room_for (object_limit r.old) (step_limit r.old)) × (length out.old ≡ 1024)) }
-    requires i_bound { (i < object_limit r.old) × ((n ≤ object_limit r.old) × (at + length b.now ≤ 1184)) }
-    ensures { (result ≡ (change_to (record { tag = tag; object = i; place = at; bytes = b.now; standing = n }) r.old).answer) × (r.new ≡ (change_to (record { tag = tag; object = i; place = at; bytes = b.now; standing = n }) r.old).bytes) }
-{
-    if change_copy(r, w, out, tag, i, at, b, n) {
-        octets::put(r, w);
-        return told(slot(w, i));
-    }
-    Answer::Refused {
-        number: 8,
-        list: 0,
-        offset: 0,
-    }
-}
-
-// A change of a small room, and of any: an array is cleared whole each time, so a small room's copy lies in a small one.
-fn change_small(r: &mut [u8], tag: u8, i: usize, at: usize, b: &[u8], n: usize) -> Answer
-    requires head { Head r.old × (length r.old ≤ 55400) }
-    requires i_bound { (i < object_limit r.old) × ((n ≤ object_limit r.old) × (at + length b.now ≤ 1184)) }
-    ensures { (result ≡ (change_to (record { tag = tag; object = i; place = at; bytes = b.now; standing = n }) r.old).answer) × (r.new ≡ (change_to (record { tag = tag; object = i; place = at; bytes = b.now; standing = n }) r.old).bytes) }
-{
-    let end = area_of(r);
-    let mut w = [0u8; SMALL];
-    let mut out = [0u8; LONGEST_LIST];
-    change_in(
-        r,
-        &mut w[0..end],
-        &mut out[0..LONGEST_LIST],
-        tag,
-        i,
-        at,
-        b,
-        n,
+    push(r, w, p.tag.byte(), p.object);
+    settle(
+        w,
+        OBJECTS_AT + p.object * OBJECT + p.place,
+        p.bytes,
+        p.standing,
     )
 }
 
-fn change_large(r: &mut [u8], tag: u8, i: usize, at: usize, b: &[u8], n: usize) -> Answer
+// Change and undo have three steps each, and not one pair for both: what is made on the copy would be a closure over two lent slices, whose clauses would
+// say again what `change_copy` and `undo_copy` promise, so it is no plainer.
+fn change_in(r: &mut [u8], w: &mut [u8], p: Put) -> Result<Done, Fault>
+    requires head { Head r.old × (length w.old ≡ room_for (object_limit r.old) (step_limit r.old)) }
+    requires within { (p.object < object_limit r.old) × (p.standing ≤ object_limit r.old) }
+    ensures { (result ≡ (change_to (put_of p.entry) r.old).answer) × (r.new ≡ (change_to (put_of p.entry) r.old).bytes) }
+{
+    change_copy(r, w, p)?;
+    octets::put(r, w);
+    Ok(told(slot(w, p.object)))
+}
+
+// The same on a copy in an array of N bytes. An array is cleared whole each time, so a small room's copy lies in a small one.
+fn change_within<const N: usize>(r: &mut [u8], p: Put) -> Result<Done, Fault>
+    requires head { Head r.old × (room_for (object_limit r.old) (step_limit r.old) ≤ N) }
+    requires largest { N ≤ 218456 }
+    requires within { (p.object < object_limit r.old) × (p.standing ≤ object_limit r.old) }
+    ensures { (result ≡ (change_to (put_of p.entry) r.old).answer) × (r.new ≡ (change_to (put_of p.entry) r.old).bytes) }
+{
+    let end = area_of(r);
+    let mut w = [0u8; N];
+    let copy = &mut w[..];
+    change_in(r, &mut copy[..end], p)
+}
+
+// Puts bytes into an object's own data: a change, unless a list would pass 1,024 bytes.
+pub(crate) fn change(r: &mut [u8], p: Put) -> Result<Done, Fault>
     requires head { Head r.old }
-    requires i_bound { (i < object_limit r.old) × ((n ≤ object_limit r.old) × (at + length b.now ≤ 1184)) }
-    ensures { (result ≡ (change_to (record { tag = tag; object = i; place = at; bytes = b.now; standing = n }) r.old).answer) × (r.new ≡ (change_to (record { tag = tag; object = i; place = at; bytes = b.now; standing = n }) r.old).bytes) }
-{
-    let end = area_of(r);
-    let mut w = [0u8; LARGEST];
-    let mut out = [0u8; LONGEST_LIST];
-    change_in(
-        r,
-        &mut w[0..end],
-        &mut out[0..LONGEST_LIST],
-        tag,
-        i,
-        at,
-        b,
-        n,
-    )
-}
-
-// Puts b at a place of object i's own data, n objects standing then: a change, unless a list would pass 1,024 bytes.
-pub(crate) fn change(r: &mut [u8], tag: u8, i: usize, at: usize, b: &[u8], n: usize) -> Answer
-    requires { Head r.old × ((i < object_limit r.old) × ((n ≤ object_limit r.old) × (at + length b.now ≤ 1184))) }
-    ensures { (result ≡ (change_to (record { tag = tag; object = i; place = at; bytes = b.now; standing = n }) r.old).answer) × (r.new ≡ (change_to (record { tag = tag; object = i; place = at; bytes = b.now; standing = n }) r.old).bytes) }
+    requires within { (p.object < object_limit r.old) × (p.standing ≤ object_limit r.old) }
+    ensures { (result ≡ (change_to (put_of p.entry) r.old).answer) × (r.new ≡ (change_to (put_of p.entry) r.old).bytes) }
 {
     if r.len() <= SMALL {
-        return change_small(r, tag, i, at, b, n);
+        return change_within::<SMALL>(r, p);
     }
-    change_large(r, tag, i, at, b, n)
+    change_within::<LARGEST>(r, p)
 }
 
 // The room's area to w, with the latest change undone.
-fn undo_copy(r: &[u8], w: &mut [u8], out: &mut [u8]) -> bool
-    requires head { Head r.now × ((length w.old ≡ room_for (object_limit r.now) (step_limit r.now)) × (length out.old ≡ 1024)) }
+fn undo_copy(r: &[u8], w: &mut [u8]) -> Result<(), Refusal>
+    requires head { Head r.now × (length w.old ≡ room_for (object_limit r.now) (step_limit r.now)) }
     requires r_nonzero { (0 < kept_steps r.now) × (step_object (latest r.now) < object_limit r.now) }
-    ensures { (result ≡ is_some (step_taken_back (area r.now))) × ((result ≡ true → step_taken_back (area r.now) ≡ some w.new)) }
+    ensures { (result ≡ worked_out (step_taken_back (area r.now))) × ((result ≡ Ok tt → step_taken_back (area r.now) ≡ some w.new)) }
 {
     pop(r, w);
     let u = step(r, number_in(r, 0), 0);
     settle(
         w,
-        out,
         OBJECTS_AT + number_in(u, 1) * OBJECT,
         part_of(u, STEP_DATA_AT, OWN_DATA),
         standing(number_in(r, 2), u),
     )
 }
 
-fn undo_in(r: &mut [u8], w: &mut [u8], out: &mut [u8]) -> Answer
-    requires head { Head r.old × ((length w.old ≡ room_for (object_limit r.old) (step_limit r.old)) × (length out.old ≡ 1024)) }
+fn undo_in(r: &mut [u8], w: &mut [u8]) -> Result<Done, Fault>
+    requires head { Head r.old × (length w.old ≡ room_for (object_limit r.old) (step_limit r.old)) }
     requires r_nonzero { (0 < kept_steps r.old) × (step_object (latest r.old) < object_limit r.old) }
     ensures { (result ≡ (take_back_to r.old).answer) × (r.new ≡ (take_back_to r.old).bytes) }
 {
-    if undo_copy(r, w, out) {
-        octets::put(r, w);
-        return Answer::Done {
-            length: 0,
-            present: false,
-            count: 0,
-        };
-    }
-    Answer::Refused {
-        number: 8,
-        list: 0,
-        offset: 0,
-    }
+    undo_copy(r, w)?;
+    octets::put(r, w);
+    Ok(TELLS_NOTHING)
 }
 
-// An undo in a small room, and in any.
-fn undo_small(r: &mut [u8]) -> Answer
-    requires head { Head r.old × (length r.old ≤ 55400) }
+// The same on a copy in an array of N bytes.
+fn undo_within<const N: usize>(r: &mut [u8]) -> Result<Done, Fault>
+    requires head { Head r.old × (room_for (object_limit r.old) (step_limit r.old) ≤ N) }
+    requires largest { N ≤ 218456 }
     requires r_nonzero { (0 < kept_steps r.old) × (step_object (latest r.old) < object_limit r.old) }
     ensures { (result ≡ (take_back_to r.old).answer) × (r.new ≡ (take_back_to r.old).bytes) }
 {
     let end = area_of(r);
-    let mut w = [0u8; SMALL];
-    let mut out = [0u8; LONGEST_LIST];
-    undo_in(r, &mut w[0..end], &mut out[0..LONGEST_LIST])
-}
-
-fn undo_large(r: &mut [u8]) -> Answer
-    requires head { Head r.old }
-    requires r_nonzero { (0 < kept_steps r.old) × (step_object (latest r.old) < object_limit r.old) }
-    ensures { (result ≡ (take_back_to r.old).answer) × (r.new ≡ (take_back_to r.old).bytes) }
-{
-    let end = area_of(r);
-    let mut w = [0u8; LARGEST];
-    let mut out = [0u8; LONGEST_LIST];
-    undo_in(r, &mut w[0..end], &mut out[0..LONGEST_LIST])
+    let mut w = [0u8; N];
+    let copy = &mut w[..];
+    undo_in(r, &mut copy[..end])
 }
 
 // Takes off the latest change, unless a list would pass 1,024 bytes.
-pub(crate) fn take_back(r: &mut [u8]) -> Answer
+pub(crate) fn take_back(r: &mut [u8]) -> Result<Done, Fault>
     requires { Head r.old × ((0 < kept_steps r.old) × (step_object (latest r.old) < object_limit r.old)) }
     ensures { (result ≡ (take_back_to r.old).answer) × (r.new ≡ (take_back_to r.old).bytes) }
 {
     if r.len() <= SMALL {
-        return undo_small(r);
+        return undo_within::<SMALL>(r);
     }
-    undo_large(r)
+    undo_within::<LARGEST>(r)
 }

@@ -12,55 +12,38 @@ use crate::places::{
 };
 use octets::{byte_in, part_of};
 
+#[tactic(auto, unfolding(crate::specs::Formed::counts_ok))]
 fn head_ok(r: &[u8]) -> bool
     ensures { result ≡ counts_ok r.now }
 {
-    if r.len() < OBJECTS_AT {
-        return false;
-    }
     let n = number_in(r, 0);
     let s = number_in(r, 1);
-    if n < 1 {
-        return false;
-    }
-    if 64 < n {
-        return false;
-    }
-    if 64 < s {
-        return false;
-    }
-    if n < number_in(r, 2) {
-        return false;
-    }
-    if s < number_in(r, 3) {
-        return false;
-    }
-    if r.len() < OBJECTS_AT + n * OBJECT + s * STEP {
-        return false;
-    }
-    true
+    OBJECTS_AT <= r.len()
+        && 1 <= n
+        && n <= 64
+        && s <= 64
+        && number_in(r, 2) <= n
+        && number_in(r, 3) <= s
+        && OBJECTS_AT + n * OBJECT + s * STEP <= r.len()
 }
 
-// Rule 1 or 2.
+// Rule 1 or 2, of a room's byte. The computation's own test makes its `Rule`: to share it, that type would be public for one line here, which is no plainer.
+#[tactic(auto, unfolding(inherit::specs::Compute::rule_ok))]
 pub(crate) fn rule_ok(rule: u32) -> bool
     ensures { result ≡ rule_ok rule }
 {
-    if rule == 1 {
-        return true;
-    }
-    rule == 2
+    rule == 1 || rule == 2
 }
 
+#[tactic(auto, unfolding(crate::specs::Formed::settings_ok))]
 fn settings_ok(e: &[u8]) -> bool
     ensures { result ≡ settings_ok e.now }
 {
-    if !rule_ok(byte_in(e, 0) as u32) {
-        return false;
-    }
-    slot_ok(part_of(e, DEFAULT_AT, SLOT))
+    rule_ok(u32::from(byte_in(e, 0))) && slot_ok(part_of(e, DEFAULT_AT, SLOT))
 }
 
-// Whether p may be the parent of object i; `nobody` is no parent.
+// Whether p may be the parent of object i; `nobody` is no parent: C's number for none (add), or the byte of docs/ROOM.md.
+#[tactic(auto, unfolding(crate::specs::Formed::placed_in))]
 pub(crate) fn placed(r: &[u8], nobody: usize, i: usize, p: usize) -> bool
     requires { i < 256 }
     ensures { result ≡ Formed·placed (λ j. Room·own j r.now) i (parent_in nobody p) }
@@ -68,82 +51,58 @@ pub(crate) fn placed(r: &[u8], nobody: usize, i: usize, p: usize) -> bool
     if p == nobody {
         return i == 0;
     }
-    if p < i {
-        return byte_in(own(r, p), 1) == 1;
-    }
-    false
+    p < i && byte_in(own(r, p), 1) == 1
 }
 
+#[tactic(auto, unfolding(crate::specs::Formed::object_ok))]
 fn object_ok(r: &[u8], i: usize) -> bool
     requires { i < 256 }
     ensures { result ≡ object_ok r.now i }
 {
     let b = own(r, i);
-    if !block_ok(b) {
-        return false;
-    }
-    if !placed(r, 255, i, number_in(b, 0)) {
-        return false;
-    }
-    slot_ok(slot(r, i))
+    block_ok(b) && placed(r, 255, i, number_in(b, 0)) && slot_ok(slot(r, i))
 }
 
 fn objects_ok(r: &[u8], n: usize) -> bool
     requires { n < 256 }
     ensures { result ≡ every (object_ok r.now) n }
 {
-    let mut i = 0;
-    while i < n {
-        if !object_ok(r, i) {
-            return false;
-        }
-        i += 1;
-    }
-    true
+    (0..n).all(|i| object_ok(r, i))
 }
 
 // A step that puts own data back: of an object that stands, good by itself, and alike.
+#[tactic(auto, unfolding(crate::specs::Formed::again_ok))]
 fn again_ok(r: &[u8], c: usize, u: &[u8]) -> bool
     requires { c < 256 }
     ensures { result ≡ again_ok (λ j. Room·own j r.now) c u.now }
 {
     let i = number_in(u, 1);
-    if c <= i {
-        return false;
-    }
     let saved = part_of(u, STEP_DATA_AT, OWN_DATA);
-    if !block_ok(saved) {
-        return false;
-    }
-    alike(saved, own(r, i))
+    i < c && block_ok(saved) && alike(saved, own(r, i))
 }
 
-// Whether a step applies where c objects stand.
+// Whether a step applies where c objects stand: that of an add is of the last of them.
+#[tactic(auto, unfolding(crate::specs::Formed::step_ok))]
 fn step_ok(r: &[u8], c: usize, u: &[u8]) -> bool
     requires { c < 256 }
     ensures { result ≡ step_ok (λ j. Room·own j r.now) c u.now }
 {
-    let tag = byte_in(u, 0);
-    if tag == 1 {
-        return number_in(u, 1) + 1 == c;
+    match byte_in(u, 0) {
+        1 => number_in(u, 1) + 1 == c,
+        2 => again_ok(r, c, u),
+        _ => false,
     }
-    if tag != 2 {
-        return false;
-    }
-    again_ok(r, c, u)
 }
 
 // How many objects stand before a step.
 pub(crate) fn standing(c: usize, u: &[u8]) -> usize
     ensures { result ≡ Formed·standing c u.now }
 {
-    if byte_in(u, 0) != 1 {
-        return c;
+    if byte_in(u, 0) == 1 {
+        c.saturating_sub(1)
+    } else {
+        c
     }
-    if c == 0 {
-        return 0;
-    }
-    c - 1
 }
 
 // The m kept steps of a room with object limit n, where c objects stand.
@@ -151,31 +110,24 @@ fn steps_ok(r: &[u8], n: usize, m: usize, c: usize) -> bool
     requires { (n < 256) × ((m < 256) × (c < 256)) }
     ensures { result ≡ steps_ok (λ j. Room·own j r.now) (λ j. Room-step n j r.now) m 0 c }
 {
-    let mut j = 0;
     let mut stand = c;
-    while j < m {
+    for j in 0..m {
         let u = step(r, n, j);
         if !step_ok(r, stand, u) {
             return false;
         }
         stand = standing(stand, u);
-        j += 1;
     }
     true
 }
 
+#[tactic(auto, unfolding(crate::specs::Formed::formed))]
 pub(crate) fn formed(r: &[u8]) -> bool
     ensures { result ≡ Formed·formed r.now }
 {
-    if !head_ok(r) {
-        return false;
-    }
-    if !settings_ok(settings(r)) {
-        return false;
-    }
     let c = number_in(r, 2);
-    if !objects_ok(r, c) {
-        return false;
-    }
-    steps_ok(r, number_in(r, 0), number_in(r, 3), c)
+    head_ok(r)
+        && settings_ok(settings(r))
+        && objects_ok(r, c)
+        && steps_ok(r, number_in(r, 0), number_in(r, 3), c)
 }

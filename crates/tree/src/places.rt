@@ -48,13 +48,15 @@ pub(crate) const LONGEST_IDENTITY: usize = 68;
 pub(crate) const LONGEST_LIST: usize = 1024;
 
 // The settings: rule, mapping, default list.
+#[tactic(auto, unfolding(crate::specs::Room::settings))]
 pub(crate) fn settings(r: &[u8]) -> &[u8]
     ensures { result.now ≡ Room·settings r.now }
 {
     part_of(r, SETTINGS_AT, SETTINGS)
 }
 
-// Own data of object i.
+// Own data of object i. A number below 256 is a usize here, since every use of it multiplies or compares usizes.
+#[tactic(auto, unfolding(crate::specs::Room::own_data))]
 pub(crate) fn own(r: &[u8], i: usize) -> &[u8]
     requires { i < 256 }
     ensures { result.now ≡ Room·own i r.now }
@@ -63,6 +65,7 @@ pub(crate) fn own(r: &[u8], i: usize) -> &[u8]
 }
 
 // The computed list of object i.
+#[tactic(auto, unfolding(crate::specs::Room::slot))]
 pub(crate) fn slot(r: &[u8], i: usize) -> &[u8]
     requires { i < 256 }
     ensures { result.now ≡ Room·slot i r.now }
@@ -71,6 +74,7 @@ pub(crate) fn slot(r: &[u8], i: usize) -> &[u8]
 }
 
 // Step j, behind n objects.
+#[tactic(auto, unfolding(crate::specs::Room::step))]
 pub(crate) fn step(r: &[u8], n: usize, j: usize) -> &[u8]
     requires { (n < 256) × (j < 256) }
     ensures { result.now ≡ Room-step n j r.now }

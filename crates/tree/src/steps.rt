@@ -7,10 +7,10 @@ ghost use Rattle.tree.specs.Calls.{step_kept, step_gone};
 
 use crate::held::number_in;
 use crate::places::{OBJECT, OBJECTS_AT, STEP, own};
-use crate::writes::{lay, least};
+use crate::writes::lay;
 use octets::part_of;
 
-// A step at a place.
+// A step at a place; from here on its tag is a byte of the room (docs/ROOM.md).
 fn lay_step(w: &mut [u8], at: usize, tag: u8, i: u8, b: &[u8])
     requires { at + 2 + length b.now ≤ length w.old }
     ensures { w.new ≡ put_at at (tag ∷ i ∷ b.now) w.old }
@@ -33,7 +33,7 @@ fn push_some(r: &[u8], w: &mut [u8], tag: u8, i: usize)
     lay(w, 0, part_of(r, 0, room));
     lay_step(w, at, tag, i as u8, own(r, i));
     lay(w, at + STEP, part_of(r, at, (s - 1) * STEP));
-    w[3] = least(s, k + 1) as u8;
+    w[3] = s.min(k + 1) as u8;
 }
 
 // The room's area to w, with a step kept for object i.

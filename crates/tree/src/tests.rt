@@ -1,85 +1,77 @@
-// The tests of what a call is given, each with the number of its refusal.
+// The tests of what a call is given, in the order in which a call makes them.
 ghost use Rattle.std.specs.Prelude.{◌≡◌};
-ghost use Rattle.list.specs.List.{lent};
-ghost use Rattle.tree.specs.Model.{short_if as Model·short};
-ghost use Rattle.tree.specs.Held.{parent_in};
+ghost use Rattle.tree.specs.Held.{parent_in, lent_list};
 ghost use Rattle.tree.specs.Calls.{nobody};
-ghost use Rattle.tree.specs.Inner.Faults.{object_fault, add_fault, fault_by, fault_of};
+ghost use Rattle.tree.specs.Inner.Faults.{test_object, test_add, test_list, test_owners, test_short};
 
-use crate::Answer;
 use crate::formed::{formed, placed};
-use crate::held::number_in;
+use crate::held::{number_in, ordinary};
 use crate::places::LONGEST_LIST;
-use list::Reading;
-
-// A refusal of a list that is given: its number, 0 for none, and the offset of its entry.
-#[derive(Clone, Copy)]
-pub(crate) struct Fault {
-    pub(crate) number: u8,
-    pub(crate) offset: u16,
-}
-
-fn fault_by(r: Reading) -> Fault
-    ensures { result ≡ fault_by r }
-{
-    match r {
-        Reading::Done { length, count, end } => Fault {
-            number: 0,
-            offset: 0,
-        },
-        Reading::Refused { number, at } => Fault { number, offset: at },
-    }
-}
-
-// A list that is given or not.
-pub(crate) fn fault_of(has: bool, s: &[u8]) -> Fault
-    ensures { result ≡ fault_of (lent has s.now) }
-{
-    if has {
-        return fault_by(list::check(s));
-    }
-    Fault {
-        number: 0,
-        offset: 0,
-    }
-}
-
-// At most 1,024 bytes, where it is given.
-pub(crate) fn short(has: bool, s: &[u8]) -> bool
-    ensures { result ≡ Model·short (lent has s.now) }
-{
-    if has {
-        return s.len() <= LONGEST_LIST;
-    }
-    true
-}
+use refusal::{Fault, Refusal};
 
 // The room, and an object that stands in it.
-pub(crate) fn object_fault(r: &[u8], i: usize) -> u8
-    ensures { result ≡ object_fault r.now i }
+#[tactic(auto, unfolding(crate::specs::Inner::Faults::test_object, octets::specs::Order::need))]
+pub(crate) fn test_object(r: &[u8], i: usize) -> Result<(), Refusal>
+    ensures { result ≡ test_object r.now i }
 {
     if !formed(r) {
-        return 13;
+        return Err(Refusal::Tree);
     }
-    if i < number_in(r, 2) {
-        return 0;
+    if number_in(r, 2) <= i {
+        return Err(Refusal::Object);
     }
-    9
+    Ok(())
 }
 
 // The room, the parent of a new object, and place for it.
-pub(crate) fn add_fault(r: &[u8], parent: usize) -> u8
-    ensures { result ≡ add_fault r.now (parent_in nobody parent) }
+#[tactic(auto, unfolding(crate::specs::Inner::Faults::test_add, octets::specs::Order::need))]
+pub(crate) fn test_add(r: &[u8], parent: usize) -> Result<(), Refusal>
+    ensures { result ≡ test_add r.now (parent_in nobody parent) }
 {
     if !formed(r) {
-        return 13;
+        return Err(Refusal::Tree);
     }
     let c = number_in(r, 2);
     if !placed(r, 0xFFFFFFFF, c, parent) {
-        return 9;
+        return Err(Refusal::Object);
     }
-    if c < number_in(r, 0) {
-        return 0;
+    if number_in(r, 0) <= c {
+        return Err(Refusal::Full);
     }
-    10
+    Ok(())
+}
+
+// A list that is given or not; the caller's number says which list of the call it is.
+pub(crate) fn test_list(list: Option<&[u8]>, which: u8) -> Result<(), Fault>
+    ensures { result ≡ test_list (lent_list list.entry) which }
+{
+    let Some(s) = list else {
+        return Ok(());
+    };
+    match list::check(s) {
+        Ok(_) => Ok(()),
+        Err(fault) => Err(fault.in_list(which)),
+    }
+}
+
+// An object's owner and group: neither a placeholder.
+#[tactic(auto, unfolding(crate::specs::Inner::Faults::test_owners, octets::specs::Order::need))]
+pub(crate) fn test_owners(owner: &[u8], group: &[u8]) -> Result<(), Refusal>
+    ensures { result ≡ test_owners owner.now group.now }
+{
+    if !ordinary(owner) || !ordinary(group) {
+        return Err(Refusal::Identity);
+    }
+    Ok(())
+}
+
+// At most 1,024 bytes, where it is given.
+#[tactic(auto, unfolding(crate::specs::Inner::Faults::test_short, octets::specs::Order::need, crate::specs::Model::short_if))]
+pub(crate) fn test_short(list: Option<&[u8]>) -> Result<(), Refusal>
+    ensures { result ≡ test_short (lent_list list.entry) }
+{
+    match list {
+        Some(s) if LONGEST_LIST < s.len() => Err(Refusal::Room),
+        _ => Ok(()),
+    }
 }

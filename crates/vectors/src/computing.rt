@@ -1,9 +1,9 @@
 // The computation. A case: its kind (3), a zero byte, a 16-bit zero; then 32-bit numbers: the rule, the settings, the four masks of the
 // mapping, the lengths of parent, creator, default, types, owner and group, and the room; then the bytes of those six.
-use crate::area::read_to;
+use crate::area::{read_part, read_to};
 use octets::{part_of, word_in};
 use std::io::{Stdin, Stdout};
-use stored::{end_line, print_bytes, print_space, print_values, print_word, wide};
+use stored::{end_line, print_bytes, print_space, print_values, print_word};
 
 const MOST_LIST: usize = 66000;
 
@@ -27,17 +27,12 @@ const MOST_PRINTED: usize = 1024;
 
 const SUM_BASE: u32 = 65521;
 
-// What byte i of the result holds before a call: (37 i + 11) mod 256.
-fn before(i: usize) -> u8 {
-    if i < 66000 {
-        return ((37 * i + 11) % 256) as u8;
-    }
-    0
-}
-
+// Byte i of the result holds (37 i + 11) mod 256 before a call.
 fn prepare(out: &mut [u8]) {
-    for i in 0..out.len() {
-        out[i] = before(i);
+    let mut before = 11u8;
+    for byte in out {
+        *byte = before;
+        before = before.wrapping_add(37);
     }
 }
 
@@ -46,7 +41,7 @@ fn print_sum(to: Stdout, bytes: &[u8]) {
     let mut a = 1u32;
     let mut b = 0u32;
     for x in bytes {
-        a = (a + wide(*x)) % SUM_BASE;
+        a = (a + u32::from(*x)) % SUM_BASE;
         b = (b + a) % SUM_BASE;
     }
     print_word(to, a);
@@ -62,32 +57,17 @@ fn print_result(to: Stdout, out: &[u8]) {
     print_sum(to, out);
 }
 
-// Reads the part whose length is at that offset; false where it's over its limit or the input ends.
-fn fill(from: Stdin, area: &mut [u8], at: usize, place: usize, most: usize) -> bool {
-    let n = word_in(area, at) as usize;
-    if most < n {
-        return false;
-    }
-    read_to(from, area, place, n)
+// Reads the part whose length is at that offset; none where it's over its limit or the input ends.
+fn fill(from: Stdin, area: &mut [u8], at: usize, place: usize, most: usize) -> Option<()> {
+    read_part(from, area, place, word_in(area, at) as usize, most)
 }
 
-fn fill_lists(from: Stdin, area: &mut [u8]) -> bool {
-    if !fill(from, area, 28, PARENT, MOST_LIST) {
-        return false;
-    }
-    if !fill(from, area, 32, CREATOR, MOST_LIST) {
-        return false;
-    }
-    fill(from, area, 36, DEFAULT, MOST_LIST)
-}
-
-fn fill_rest(from: Stdin, area: &mut [u8]) -> bool {
-    if !fill(from, area, 40, TYPES, MOST_PART) {
-        return false;
-    }
-    if !fill(from, area, 44, OWNER, MOST_PART) {
-        return false;
-    }
+fn fill_parts(from: Stdin, area: &mut [u8]) -> Option<()> {
+    fill(from, area, 28, PARENT, MOST_LIST)?;
+    fill(from, area, 32, CREATOR, MOST_LIST)?;
+    fill(from, area, 36, DEFAULT, MOST_LIST)?;
+    fill(from, area, 40, TYPES, MOST_PART)?;
+    fill(from, area, 44, OWNER, MOST_PART)?;
     fill(from, area, 48, GROUP, MOST_PART)
 }
 
@@ -128,27 +108,11 @@ fn run_compute(to: Stdout, area: &[u8], out: &mut [u8]) {
     end_line(to);
 }
 
-// False where the room is over its limit.
-fn run_filled(to: Stdout, area: &[u8]) -> bool {
-    let room = word_in(area, 52) as usize;
-    if MOST_LIST < room {
-        return false;
-    }
+// Reads the rest of a case and runs it; none where a length is over its limit or the input ends.
+pub(crate) fn run(from: Stdin, to: Stdout, area: &mut [u8]) -> Option<()> {
+    read_to(from, area, 1, 55)?;
+    fill_parts(from, area)?;
     let mut out = [0u8; MOST_LIST];
-    run_compute(to, area, &mut out[0..room]);
-    true
-}
-
-// Reads the rest of a case and runs it; false where a length is over its limit or the input ends.
-pub(crate) fn run(from: Stdin, to: Stdout, area: &mut [u8]) -> bool {
-    if !read_to(from, area, 1, 55) {
-        return false;
-    }
-    if !fill_lists(from, area) {
-        return false;
-    }
-    if !fill_rest(from, area) {
-        return false;
-    }
-    run_filled(to, area)
+    run_compute(to, area, out.get_mut(..word_in(area, 52) as usize)?);
+    Some(())
 }

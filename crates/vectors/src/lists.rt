@@ -1,5 +1,6 @@
 // Reading. A case: its kind (1 read a list, 2 identity), a zero byte, the row's length in 16 bits, the payload's length in 32, the payload.
-use crate::area::read_to;
+use crate::area::{read_part, read_to};
+use list::{Placeholder, Sid};
 use octets::{half_in, part_of, word_in};
 use std::io::{Stdin, Stdout};
 use stored::{end_line, print_bytes, print_size, print_space, print_values, print_word};
@@ -8,28 +9,17 @@ const MOST_PAYLOAD: usize = 66000;
 
 const MOST_ROW: usize = 4200;
 
-fn print_half(to: Stdout, x: u16) {
-    print_word(to, x as u32);
-}
-
-// What element i of the row holds before a call: 65535 - i.
-fn before(i: usize) -> u16 {
-    if i < 65536 {
-        return (65535 - i) as u16;
-    }
-    0
-}
-
+// Element i of the row holds 65535 - i before a call.
 fn prepare(row: &mut [u16]) {
-    for i in 0..row.len() {
-        row[i] = before(i);
+    for (element, before) in row.iter_mut().zip((0..=u16::MAX).rev()) {
+        *element = before;
     }
 }
 
 fn print_row(to: Stdout, row: &[u16]) {
     for x in row {
         print_space(to);
-        print_half(to, *x);
+        print_word(to, u32::from(*x));
     }
 }
 
@@ -42,60 +32,53 @@ fn run_read(to: Stdout, list: &[u8], row: &mut [u16]) {
     end_line(to);
 }
 
-// False where the row is over its limit.
-fn run_list(to: Stdout, list: &[u8], m: usize) -> bool {
-    if MOST_ROW < m {
-        return false;
-    }
+fn run_list(to: Stdout, list: &[u8], m: usize) -> Option<()> {
     let mut row = [0u16; MOST_ROW];
-    run_read(to, list, &mut row[0..m]);
-    true
+    run_read(to, list, row.get_mut(..m)?);
+    Some(())
 }
 
-// Whether the identity that was made tells what the call told: none where that is 6, else which placeholder it is.
-fn agrees(number: u32, ok: bool, kind: u8) -> bool {
-    if ok {
-        return number == kind as u32;
+// What the call tells of an identity that was made, or of bytes that are none.
+fn told_of(made: Option<Sid>) -> u32 {
+    match made.map(Sid::placeholder) {
+        None => 6,
+        Some(None) => 0,
+        Some(Some(Placeholder::Owner)) => 1,
+        Some(Some(Placeholder::Group)) => 2,
     }
-    number == 6
 }
 
-// False where two functions tell differently of an identity.
-fn run_identity(to: Stdout, bytes: &[u8]) -> bool {
+// None where two functions tell differently of an identity.
+fn run_identity(to: Stdout, bytes: &[u8]) -> Option<()> {
     let number = capi::pt_identity(bytes);
-    let made = list::Sid::from_bytes(bytes);
-    let ok = made.ok;
-    let sid = made.sid;
-    let len = sid.len;
-    let buffer = sid.bytes;
+    let made = Sid::from_bytes(bytes);
     print_word(to, number);
     print_space(to);
-    print_size(to, len);
-    print_space(to);
-    print_bytes(to, &buffer);
+    match made {
+        Some(sid) => {
+            print_size(to, sid.len);
+            print_space(to);
+            print_bytes(to, &sid.bytes);
+        }
+        None => {
+            print_size(to, 0);
+            print_space(to);
+            print_bytes(to, &[0; 68]);
+        }
+    }
     end_line(to);
-    agrees(number, ok, sid.placeholder())
+    (number == told_of(made)).then_some(())
 }
 
-fn run_payload(to: Stdout, kind: u8, m: usize, payload: &[u8]) -> bool {
-    if kind == 2 {
-        return run_identity(to, payload);
-    }
-    run_list(to, payload, m)
-}
-
-// Reads the rest of a case and runs it; false where a length is over its limit or the input ends.
-pub(crate) fn run(from: Stdin, to: Stdout, kind: u8, area: &mut [u8]) -> bool {
-    if !read_to(from, area, 1, 7) {
-        return false;
-    }
-    let m = half_in(area, 2) as usize;
+// Reads the rest of a case and runs it; none where a length is over its limit, the input ends, or two functions tell differently.
+pub(crate) fn run(from: Stdin, to: Stdout, kind: u8, area: &mut [u8]) -> Option<()> {
+    read_to(from, area, 1, 7)?;
+    let m = usize::from(half_in(area, 2));
     let n = word_in(area, 4) as usize;
-    if MOST_PAYLOAD < n {
-        return false;
+    read_part(from, area, 8, n, MOST_PAYLOAD)?;
+    let payload = part_of(area, 8, n);
+    match kind {
+        2 => run_identity(to, payload),
+        _ => run_list(to, payload, m),
     }
-    if !read_to(from, area, 8, n) {
-        return false;
-    }
-    run_payload(to, kind, m, part_of(area, 8, n))
 }

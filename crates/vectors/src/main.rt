@@ -6,6 +6,7 @@
 
 mod area;
 mod computing;
+mod lent;
 mod lists;
 mod openings;
 mod pairs;
@@ -23,7 +24,7 @@ const MOST_CASE: usize = 198656;
 
 const MOST_ROOM: usize = 220000;
 
-// Runs a case whose kind is read; false where there is no such case.
+// Runs a case whose kind is read, a byte of the input; none where there is no such case.
 fn run(
     from: Stdin,
     to: Stdout,
@@ -31,31 +32,32 @@ fn run(
     area: &mut [u8],
     room: &mut [u8],
     lent: &mut usize,
-) -> bool {
+) -> Option<()> {
     match kind {
         1 | 2 => lists::run(from, to, kind, area),
         3 => computing::run(from, to, area),
         15 => scripts::run(from, to, area),
-        16 | 17 | 18 | 19 => openings::run(from, to, kind, area),
+        16..=19 => openings::run(from, to, kind, area),
         20 => texts::run(from, to, area),
         21 => pairs::run(from, to, area),
         _ => trees::run(from, to, kind, area, room, lent),
     }
 }
 
-// The next case, or false at the end and where the input holds no case.
-fn run_next(from: Stdin, to: Stdout, area: &mut [u8], room: &mut [u8], lent: &mut usize) -> bool {
-    if !read_to(from, area, 0, 1) {
-        return bad(to);
-    }
+// Runs the next case and tells its kind, which is the byte 0 at the end; none where the input holds no case.
+fn run_next(
+    from: Stdin,
+    to: Stdout,
+    area: &mut [u8],
+    room: &mut [u8],
+    lent: &mut usize,
+) -> Option<u8> {
+    read_to(from, area, 0, 1)?;
     let kind = byte_in(area, 0);
-    if kind == 0 {
-        return false;
+    if kind != 0 {
+        run(from, to, kind, area, room, lent)?;
     }
-    if !run(from, to, kind, area, room, lent) {
-        return bad(to);
-    }
-    true
+    Some(kind)
 }
 
 fn main(rt: HostRuntime) {
@@ -65,8 +67,10 @@ fn main(rt: HostRuntime) {
     let mut room = [0u8; MOST_ROOM];
     let mut lent = 0usize;
     for _ in 0..u32::MAX {
-        if !run_next(from, to, &mut area, &mut room, &mut lent) {
-            return;
+        match run_next(from, to, &mut area, &mut room, &mut lent) {
+            Some(0) => return,
+            Some(_) => {}
+            None => return bad(to),
         }
     }
 }

@@ -74,83 +74,56 @@ fn run_evaluate(to: Stdout, area: &[u8]) {
     end_line(to);
 }
 
-fn open(from: Stdin, to: Stdout, area: &mut [u8]) -> bool {
-    if !read_to(from, area, 1, 35) {
-        return false;
-    }
-    if !read_part(from, area, LIST, word_in(area, 8) as usize, MOST_LIST) {
-        return false;
-    }
-    if !read_part(from, area, HELD, word_in(area, 12) as usize, MOST_HELD) {
-        return false;
-    }
+fn open(from: Stdin, to: Stdout, area: &mut [u8]) -> Option<()> {
+    read_to(from, area, 1, 35)?;
+    read_part(from, area, LIST, word_in(area, 8) as usize, MOST_LIST)?;
+    read_part(from, area, HELD, word_in(area, 12) as usize, MOST_HELD)?;
     run_open(to, area);
-    true
+    Some(())
 }
 
-fn open_with(from: Stdin, to: Stdout, area: &mut [u8]) -> bool {
-    if !read_to(from, area, 1, 39) {
-        return false;
-    }
-    if !read_part(from, area, LIST_WITH, word_in(area, 8) as usize, MOST_LIST) {
-        return false;
-    }
-    if !read_part(from, area, HELD_WITH, word_in(area, 12) as usize, MOST_HELD) {
-        return false;
-    }
-    if !read_part(
+fn open_with(from: Stdin, to: Stdout, area: &mut [u8]) -> Option<()> {
+    read_to(from, area, 1, 39)?;
+    read_part(from, area, LIST_WITH, word_in(area, 8) as usize, MOST_LIST)?;
+    read_part(from, area, HELD_WITH, word_in(area, 12) as usize, MOST_HELD)?;
+    read_part(
         from,
         area,
         TABLE_WITH,
         word_in(area, 16) as usize,
         MOST_TABLE,
-    ) {
-        return false;
-    }
+    )?;
     run_open_with(to, area);
-    true
+    Some(())
 }
 
-fn evaluate(from: Stdin, to: Stdout, area: &mut [u8]) -> bool {
-    if !read_to(from, area, 1, 11) {
-        return false;
-    }
-    if !read_part(from, area, WALKED, word_in(area, 4) as usize, MOST_LIST) {
-        return false;
-    }
-    if !read_part(from, area, TABLE, word_in(area, 8) as usize, MOST_TABLE) {
-        return false;
-    }
+fn evaluate(from: Stdin, to: Stdout, area: &mut [u8]) -> Option<()> {
+    read_to(from, area, 1, 11)?;
+    read_part(from, area, WALKED, word_in(area, 4) as usize, MOST_LIST)?;
+    read_part(from, area, TABLE, word_in(area, 8) as usize, MOST_TABLE)?;
     run_evaluate(to, area);
-    true
+    Some(())
 }
 
 // Whether the walker that is made of a list finds at first what the call told.
-fn agrees(found: Found, answer: [u32; 8], entry: [u32; 8]) -> bool {
+fn agrees(found: Option<Found>, answer: [u32; 8], entry: [u32; 8]) -> bool {
     match found {
-        Found::At { at, entry: e, next } => {
-            if at != answer[3] as usize {
-                return false;
-            }
-            if e.size != entry[2] as usize {
-                return false;
-            }
-            next == entry[7] as usize
+        Some(found) => {
+            found.at == answer[3] as usize
+                && found.entry.size == entry[2] as usize
+                && found.next == entry[7] as usize
         }
-        Found::End => answer[4] == 0,
+        None => answer[4] == 0,
     }
 }
 
 // Whether a walker goes past the entry that the call told of to where the call said that the next one begins.
 fn goes_past(list: &[u8], answer: [u32; 8], entry: [u32; 8]) -> bool {
-    if answer[4] == 0 {
-        return true;
-    }
-    access::next_at(access::walked(list), answer[3] as usize) == entry[7] as usize
+    answer[4] == 0 || access::next_at(access::walked(list), answer[3] as usize) == entry[7] as usize
 }
 
-// False where the walker and the call tell differently of the entry, or of the first one.
-fn run_step(to: Stdout, list: &[u8], place: u32) -> bool {
+// None where the walker and the call tell differently of the entry, or of the first one.
+fn run_step(to: Stdout, list: &[u8], place: u32) -> Option<()> {
     let mut answer = [0u32; 8];
     let mut entry = [0u32; 8];
     capi::pt_step(list, place, &mut entry, &mut answer);
@@ -158,28 +131,21 @@ fn run_step(to: Stdout, list: &[u8], place: u32) -> bool {
     print_space(to);
     print_values(to, entry, 8);
     end_line(to);
-    if !goes_past(list, answer, entry) {
-        return false;
-    }
-    if 8 < place {
-        return true;
-    }
-    agrees(access::first(list), answer, entry)
+    let same = goes_past(list, answer, entry)
+        && (8 < place || agrees(access::first(list), answer, entry));
+    same.then_some(())
 }
 
-fn step(from: Stdin, to: Stdout, area: &mut [u8]) -> bool {
-    if !read_to(from, area, 1, 11) {
-        return false;
-    }
+fn step(from: Stdin, to: Stdout, area: &mut [u8]) -> Option<()> {
+    read_to(from, area, 1, 11)?;
     let n = word_in(area, 4) as usize;
-    if !read_part(from, area, WALKED, n, MOST_LIST) {
-        return false;
-    }
+    read_part(from, area, WALKED, n, MOST_LIST)?;
     run_step(to, part_of(area, WALKED, n), word_in(area, 8))
 }
 
-// Reads the rest of a case and runs it; false where a length is over its limit, the input ends, or two functions tell differently.
-pub(crate) fn run(from: Stdin, to: Stdout, kind: u8, area: &mut [u8]) -> bool {
+// Reads the rest of a case and runs it; none where a length is over its limit, the input ends, or two functions tell differently. Each kind has offsets
+// and limits of its own, named above: one function for all, with a table of them, is no plainer.
+pub(crate) fn run(from: Stdin, to: Stdout, kind: u8, area: &mut [u8]) -> Option<()> {
     match kind {
         16 => open(from, to, area),
         18 => evaluate(from, to, area),

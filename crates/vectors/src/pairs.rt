@@ -13,17 +13,10 @@ const FIRST: usize = 11;
 
 const SECOND: usize = 66011;
 
-// What element i of the row holds before a call: 4294967295 - i.
-fn before(i: usize) -> u32 {
-    if i < MOST_ROW {
-        return u32::MAX - (i as u32);
-    }
-    0
-}
-
+// Element i of the row holds 4294967295 - i before a call.
 fn prepare(row: &mut [u32]) {
-    for i in 0..row.len() {
-        row[i] = before(i);
+    for (element, before) in row.iter_mut().zip((0..=u32::MAX).rev()) {
+        *element = before;
     }
 }
 
@@ -48,26 +41,12 @@ fn compare(to: Stdout, area: &[u8], row: &mut [u32]) {
     end_line(to);
 }
 
-// False where the row is over its limit.
-fn run_pair(to: Stdout, area: &[u8], m: usize) -> bool {
-    if MOST_ROW < m {
-        return false;
-    }
+// Reads the rest of a case and runs it; none where a length is over its limit or the input ends.
+pub(crate) fn run(from: Stdin, to: Stdout, area: &mut [u8]) -> Option<()> {
+    read_to(from, area, 1, 10)?;
+    read_part(from, area, FIRST, word_in(area, 1) as usize, MOST_LIST)?;
+    read_part(from, area, SECOND, word_in(area, 5) as usize, MOST_LIST)?;
     let mut row = [0u32; MOST_ROW];
-    compare(to, area, &mut row[0..m]);
-    true
-}
-
-// Reads the rest of a case and runs it; false where a length is over its limit or the input ends.
-pub(crate) fn run(from: Stdin, to: Stdout, area: &mut [u8]) -> bool {
-    if !read_to(from, area, 1, 10) {
-        return false;
-    }
-    if !read_part(from, area, FIRST, word_in(area, 1) as usize, MOST_LIST) {
-        return false;
-    }
-    if !read_part(from, area, SECOND, word_in(area, 5) as usize, MOST_LIST) {
-        return false;
-    }
-    run_pair(to, area, half_in(area, 9) as usize)
+    compare(to, area, row.get_mut(..usize::from(half_in(area, 9)))?);
+    Some(())
 }

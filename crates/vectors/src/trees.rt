@@ -3,11 +3,12 @@
 // default is given; default. 5 add: parent, traits, the 16 bytes of a type; owner, group, list. 6 set list: object, whether one is given;
 // list. 7 set mark: object, mark. 8 set owner: object; owner, group. 9 undo. 10 list, 11 own, 12 data: object, length of `out`.
 // 13 counts. 14 room: objects, steps.
-use crate::area::read_to;
+use crate::area::{read_part, read_to};
+use crate::lent::run_lent;
 use list::guid_at;
 use octets::{half_in, part_of, word_in};
 use std::io::{Stdin, Stdout};
-use stored::{end_line, prepare, print_answer, print_hash, print_size, print_space, print_word};
+use stored::{end_line, print_answer, print_size, print_space, print_word};
 
 const MOST_OUT: usize = 1100;
 
@@ -28,7 +29,7 @@ const GROUP: usize = 246;
 
 const LIST: usize = 446;
 
-// How many bytes a call's numbers have.
+// How many bytes a call's numbers have. A call is a byte of the input, here and below; each arm is a call of its own, so closures would be no plainer.
 fn head_size(call: u8) -> usize {
     match call {
         4 => 36,
@@ -40,38 +41,33 @@ fn head_size(call: u8) -> usize {
     }
 }
 
-// Reads a string after its length; false where it's over its limit or the input ends.
-fn read_string(from: Stdin, area: &mut [u8], length_at: usize, at: usize, most: usize) -> bool {
-    if !read_to(from, area, length_at, 2) {
-        return false;
-    }
-    let n = half_in(area, length_at) as usize;
-    if most < n {
-        return false;
-    }
-    read_to(from, area, at, n)
+// Reads a string after its length; none where it's over its limit or the input ends.
+fn read_string(
+    from: Stdin,
+    area: &mut [u8],
+    length_at: usize,
+    at: usize,
+    most: usize,
+) -> Option<()> {
+    read_to(from, area, length_at, 2)?;
+    read_part(from, area, at, usize::from(half_in(area, length_at)), most)
 }
 
-fn read_names(from: Stdin, call: u8, area: &mut [u8]) -> bool {
-    if call != 5 && call != 8 {
-        return true;
+// The strings of a call: owner and group where it has them, then a list.
+fn read_strings(from: Stdin, call: u8, area: &mut [u8]) -> Option<()> {
+    if matches!(call, 5 | 8) {
+        read_string(from, area, OWNER_LENGTH, OWNER, MOST_NAME)?;
+        read_string(from, area, GROUP_LENGTH, GROUP, MOST_NAME)?;
     }
-    if !read_string(from, area, OWNER_LENGTH, OWNER, MOST_NAME) {
-        return false;
+    if matches!(call, 4..=6) {
+        read_string(from, area, LIST_LENGTH, LIST, MOST_LIST)?;
     }
-    read_string(from, area, GROUP_LENGTH, GROUP, MOST_NAME)
-}
-
-fn read_list(from: Stdin, call: u8, area: &mut [u8]) -> bool {
-    if call < 4 || 6 < call {
-        return true;
-    }
-    read_string(from, area, LIST_LENGTH, LIST, MOST_LIST)
+    Some(())
 }
 
 // The string that `read_string` read.
 fn string(area: &[u8], length_at: usize, at: usize) -> &[u8] {
-    part_of(area, at, half_in(area, length_at) as usize)
+    part_of(area, at, usize::from(half_in(area, length_at)))
 }
 
 fn owner(area: &[u8]) -> &[u8] {
@@ -105,26 +101,17 @@ fn start(area: &[u8], room: &mut [u8], answer: &mut [u32; 8]) {
     );
 }
 
-// The length that the calls after a start are lent: its own where it was done.
-fn length_after(answer: [u32; 8], own: usize, earlier: usize) -> usize {
-    if answer[0] == 0 {
-        return own;
-    }
-    earlier
-}
-
-// False where the room's length is over its limit.
-fn run_start(to: Stdout, area: &[u8], room: &mut [u8], lent: &mut usize) -> bool {
+// None where the room's length is over its limit. The calls after a start are lent its room where it was done.
+fn run_start(to: Stdout, area: &[u8], room: &mut [u8], lent: &mut usize) -> Option<()> {
     let n = word_in(area, 1) as usize;
-    if room.len() < n {
-        return false;
-    }
     let mut answer = [0u32; 8];
-    start(area, &mut room[0..n], &mut answer);
-    *lent = length_after(answer, n, *lent);
+    start(area, room.get_mut(..n)?, &mut answer);
+    if answer[0] == 0 {
+        *lent = n;
+    }
     print_answer(to, 4, answer);
     end_line(to);
-    true
+    Some(())
 }
 
 fn add(area: &[u8], room: &mut [u8], answer: &mut [u32; 8]) {
@@ -171,12 +158,11 @@ fn change(call: u8, area: &[u8], room: &mut [u8], answer: &mut [u32; 8]) {
     }
 }
 
-fn run_change(to: Stdout, call: u8, area: &[u8], room: &mut [u8]) -> bool {
+fn run_change(to: Stdout, call: u8, area: &[u8], room: &mut [u8]) {
     let mut answer = [0u32; 8];
     change(call, area, room, &mut answer);
     print_answer(to, call, answer);
     end_line(to);
-    true
 }
 
 fn read_back(call: u8, object: u32, room: &[u8], out: &mut [u8], answer: &mut [u32; 8]) {
@@ -187,58 +173,36 @@ fn read_back(call: u8, object: u32, room: &[u8], out: &mut [u8], answer: &mut [u
     }
 }
 
-fn run_lent(to: Stdout, call: u8, object: u32, room: &[u8], out: &mut [u8]) {
-    let mut answer = [0u32; 8];
-    prepare(out);
-    read_back(call, object, room, out, &mut answer);
-    print_answer(to, call, answer);
-    print_space(to);
-    print_hash(to, out);
-    end_line(to);
+// None where the length of `out` is over its limit.
+fn run_read(to: Stdout, call: u8, area: &[u8], room: &[u8]) -> Option<()> {
+    run_lent::<MOST_OUT, _, _>(
+        to,
+        call,
+        usize::from(half_in(area, 5)),
+        |out, answer| read_back(call, word_in(area, 1), room, out, answer),
+        |_, _| {},
+    )
 }
 
-// False where the length of `out` is over its limit.
-fn run_read(to: Stdout, call: u8, area: &[u8], room: &[u8]) -> bool {
-    let m = half_in(area, 5) as usize;
-    if MOST_OUT < m {
-        return false;
-    }
-    let mut out = [0u8; MOST_OUT];
-    run_lent(to, call, word_in(area, 1), room, &mut out[0..m]);
-    true
-}
-
-fn run_room(to: Stdout, area: &[u8]) -> bool {
+fn run_room(to: Stdout, area: &[u8]) {
     print_word(to, 14);
     print_space(to);
     print_size(to, capi::pt_room(word_in(area, 1), word_in(area, 5)));
     end_line(to);
-    true
 }
 
-// A call other than start, on the room that it's lent; false where there is no such call.
-fn run_other(to: Stdout, call: u8, area: &[u8], room: &mut [u8]) -> bool {
+// A call other than start, on the room that it's lent; none where there is no such call.
+fn run_other(to: Stdout, call: u8, area: &[u8], room: &mut [u8]) -> Option<()> {
     match call {
         5..=9 | 13 => run_change(to, call, area, room),
-        10..=12 => run_read(to, call, area, room),
+        10..=12 => run_read(to, call, area, room)?,
         14 => run_room(to, area),
-        _ => false,
+        _ => return None,
     }
+    Some(())
 }
 
-// A call whose parts are all read.
-fn run_call(to: Stdout, call: u8, area: &[u8], room: &mut [u8], lent: &mut usize) -> bool {
-    if call == 4 {
-        return run_start(to, area, room, lent);
-    }
-    let n = *lent;
-    if room.len() < n {
-        return false;
-    }
-    run_other(to, call, area, &mut room[0..n])
-}
-
-// Reads the rest of a call and runs it; false where it's no call, a length is over its limit or the input ends.
+// Reads the rest of a call and runs it; none where it's no call, a length is over its limit or the input ends.
 pub(crate) fn run(
     from: Stdin,
     to: Stdout,
@@ -246,15 +210,11 @@ pub(crate) fn run(
     area: &mut [u8],
     room: &mut [u8],
     lent: &mut usize,
-) -> bool {
-    if !read_to(from, area, 1, head_size(call)) {
-        return false;
+) -> Option<()> {
+    read_to(from, area, 1, head_size(call))?;
+    read_strings(from, call, area)?;
+    if call == 4 {
+        return run_start(to, area, room, lent);
     }
-    if !read_names(from, call, area) {
-        return false;
-    }
-    if !read_list(from, call, area) {
-        return false;
-    }
-    run_call(to, call, area, room, lent)
+    run_other(to, call, area, room.get_mut(..*lent)?)
 }

@@ -11,7 +11,8 @@ use Rattle.octets.specs.Bytes.{same_bytes}
 use Rattle.octets.specs.Order.{need}
 use Rattle.octets.proofs.Tests.{tests}
 use Rattle.octets.proofs.Places.{split}
-use Rattle.condition.specs.declared.Evaluated.TheVariants.{Done, Refused}
+use Rattle.std.specs.Prelude.{Ok, Err}
+use Rattle.refusal.specs.declared.Refusal.TheVariants.{Expression}
 use Rattle.condition.specs.Token.{Token, tokens_in}
 use Rattle.condition.specs.Kind.{marked, zeros, tokens_end, acceptable, accepted_of, end_by, stored_end, up_to_four, stored_alone}
 use Rattle.condition.specs.Table.{attributes_of, table_ok}
@@ -86,13 +87,13 @@ module _ (c : Condition) (v : InGrammar c) (h : length (text_c c) ≤ 512) where
   no-padding e = end_is ∙ rw e
 
   -- what is held evaluates to what the tree means, under each table that is well made
-  pub stored-means : holdable c ≡ true → (table : List ℕ) → table_ok table ≡ true → evaluate_of (stored_of c) table ≡ Done (means_c (attributes_of table) c)
+  pub stored-means : holdable c ≡ true → (table : List ℕ) → table_ok table ≡ true → evaluate_of (stored_of c) table ≡ Ok (means_c (attributes_of table) c)
   unfolding evaluate_of need truth_by
   stored-means e table t =
       let a : accepted_of (stored_of c) ≡ some (tokens_of c) = checked ∙ rw e in
-      rw (alone, e, t, a) (ap Done (spelt-runs (attributes_of table) (formula_c c) ∙ formula-means (attributes_of table) c 12 v))
+      rw (alone, e, t, a) (ap Ok (spelt-runs (attributes_of table) (formula_c c) ∙ formula-means (attributes_of table) c 12 v))
 
   -- what isn't held is refused there as no expression
-  pub stored_refused : holdable c ≡ false → (table : List ℕ) → evaluate_of (stored_of c) table ≡ Refused 15
+  pub stored_refused : holdable c ≡ false → (table : List ℕ) → evaluate_of (stored_of c) table ≡ Err Expression
   unfolding evaluate_of need
   stored_refused e table = rw (alone, e)

@@ -7,16 +7,21 @@ use native.Mathlib.Omega.{arith}
 use lib.Dec.{eqb}
 use lib.ListN.{length, drop}
 use Rattle.condition.specs.Token.{Token, ands, nots, ors}
-use Rattle.wording.specs.declared.conditions.Walked.{Walked}
-use Rattle.wording.specs.declared.conditions.Walked.TheVariants.{At, Bad}
+use Rattle.std.specs.Prelude.{Result, Err}
+use Rattle.wording.specs.declared.walk.Place.{Place}
+use Rattle.wording.specs.declared.walk.Wrong.{Wrong}
 use Rattle.wording.proofs.Emits.{note-append, put-append}
 use Rattle.wording.proofs.Keeps.{OkOf}
-use Rattle.wording.proofs.Places.{expect-no, expect-yes, back, bad-on, head_at, not-here, pick_is}
+use Rattle.wording.proofs.Places.{expect-no, expect-yes, back, bad-on, head_at, not-here, pick_is, same-place}
 use Rattle.wording.proofs.Taken.{suffix-of}
 use Rattle.wording.proofs.Whole.{Valid, ok_read, read_row, spell}
-use Rattle.wording.specs.Grammar.{Condition, Factor, Term, and, last, not, only, or, paren}
-use Rattle.wording.specs.Inner.Tokens.{tokens_and, tokens_c, tokens_f, tokens_or, tokens_t, toks}
-use Rattle.wording.specs.Inner.Walk.{ComparedAt, Joined, Outcome, ParsedAt, is_at, note_all, note_b, note_if, put_all, put_b, put_if, rank, steps_at, takes}
+use Rattle.wording.specs.Grammar.{Factor, and, last, not, only, or, paren}
+use Rattle.wording.specs.Grammar.{Condition as ConditionTree, Term as TermTree}
+use Rattle.wording.specs.Inner.Tokens.{token_of, tokens_and, tokens_c, tokens_f, tokens_or, tokens_t, toks}
+use Rattle.wording.specs.Inner.Walk.{came, wrong, ComparedAt, Emitted, Joined, Outcome, ParsedAt, is_at, note_all, note_b, op_if, put_all, put_b, rank, steps_at, takes}
+use Rattle.wording.specs.Inner.Rows.{row_of, part_of, sign_in, operator_in}
+use Rattle.wording.specs.declared.conditions.Row.{Row}
+use Rattle.wording.specs.declared.conditions.Row.TheVariants.{Condition, Term}
 use Rattle.wording.specs.Reader.{Level, Res, TreeOf, expect, and_then, bad, onward, choose, condition, give, factor, good, is, out, pick, read, read_comparison, stop, term}
 use Rattle.wording.specs.Stored.{token_bytes}
 use Rattle.wording.specs.declared.tallies.Tally.{Tally}
@@ -39,70 +44,49 @@ pub record Took (f : ℕ) (k : Level) (j : Bool) (s : List ℕ) (at d : ℕ) (w 
   pub low : at ≤ p
   pub top : p ≤ length s
 
-pub took : (f : ℕ) (k : Level) (j : Bool) (s : List ℕ) (at d : ℕ) (w : Tally) (o : List ℕ) (r : Walked) (q : List ℕ) (p : ℕ) (w1 : Tally)
-    → at ≤ length s → r ≡ At p w1 → Outcome (toks k j) s w o (read f k d (drop at s)) r q → Took f k j s at d w o p w1 q
+pub took : (f : ℕ) (k : Level) (j : Bool) (s : List ℕ) (at d : ℕ) (w : Tally) (o : List ℕ) (r : Result Place Wrong) (q : List ℕ) (p : ℕ) (w1 : Tally)
+    → at ≤ length s → r ≡ came p w1 → Outcome (toks k j) s w o (read f k d (drop at s)) r q → Took f k j s at d w o p w1 q
 took f k j s at d w o r q p w1 h m = by (read f k d (drop at s)) refl
   where
     by : (x : Res (TreeOf k)) → read f k d (drop at s) ≡ x → Outcome (toks k j) s w o x r q → Took f k j s at d w o p w1 q
     by (good t l) e g =
         let a = g.0 in
-        let z : p ≡ length s - length l = cc in
-        let y : w1 ≡ note_all (toks k j t) w = cc in
+        let i = same-place r _ _ m a in
+        let z : p ≡ length s - length l = ap (λ (v : Place). v.at) i in
+        let y : w1 ≡ note_all (toks k j t) w = ap (λ (v : Place). v.tally) i in
         let u = suffix s f k d at t l h e in
         record { tree = t; reads = e ∙ ap (good t) (u.1 ∙ ap (λ (n : ℕ). drop n s) (sym z)); tally = y; bytes = g.1; low = omega (arith, u.0); top = omega arith }
-    by (bad l) e g = let a = g.0 in let z : ◌≡◌ {A = ℕ} 0 1 = cc in absurd (omega arith)
+    by (bad l) e g = let a = g.0 in cc
     by out e g = absurd g
 
 -- a walk goes forward, and not past the end
-pub placed : (k : Level) (j : Bool) (s : List ℕ) (at d : ℕ) (w : Tally) (o : List ℕ) (r : Walked) (q : List ℕ) (p : ℕ) (w1 : Tally)
-    → at ≤ length s → r ≡ At p w1 → ParsedAt k j s at d w o r q → (at ≤ p) × (p ≤ length s)
+pub placed : (k : Level) (j : Bool) (s : List ℕ) (at d : ℕ) (w : Tally) (o : List ℕ) (r : Result Place Wrong) (q : List ℕ) (p : ℕ) (w1 : Tally)
+    → at ≤ length s → r ≡ came p w1 → ParsedAt k j s at d w o r q → (at ≤ p) × (p ≤ length s)
 placed k j s at d w o r q p w1 h m g =
     let t = took (suc (steps_at k s at)) k j s at d w o r q p w1 h m (g.is (suc (steps_at k s at)) (omega arith)) in
     (t.low, t.top)
 
 -- ---- rows
 
--- the operator behind a part that is joined to another
-abbrev op_if : Bool → Token → List Token
-op_if true t = t ∷ []
-op_if false t = []
-
--- it is one byte, and takes two from the stack
-pub record Operator (tok : Token) (code : ℕ) : Type 0 where
-  pub bytes : token_bytes tok ≡ code ∷ []
-  pub two : takes tok ≡ 2
-
-module _ (tok : Token) (code : ℕ) (op : Operator tok code) where
-  note-op : (j : Bool) (w : Tally) → note_all (op_if j tok) w ≡ note_if j w
-  unfolding note_all
-  note-op true w = rw (op.bytes, op.two)
-  note-op false w = refl
-
-  put-op : (j : Bool) (w : Tally) (o : List ℕ) → put_all (op_if j tok) w o ≡ put_if j code w o
-  unfolding put_all
-  put-op true w o = rw op.bytes
-  put-op false w o = refl
-
-module _ (O I : Level) (x code : ℕ) (tok : Token) (end : TreeOf I → TreeOf O) (more : TreeOf I → TreeOf O → TreeOf O) (z : eqb x x ≡ true)
+module _ (O I : Level) (x : ℕ) (tok : Token) (end : TreeOf I → TreeOf O) (more : TreeOf I → TreeOf O → TreeOf O) (z : eqb x x ≡ true)
     (link : (f d : ℕ) (l : List ℕ) → read (suc f) O d l ≡ read_row x end more (read f I d) (read f O d) l)
     (higher : rank O ≡ rank I + 1)
     (toks-end : (j : Bool) (t : TreeOf I) → toks O j (end t) ≡ toks I false t ++ op_if j tok)
     (toks_more : (j : Bool) (t : TreeOf I) (c : TreeOf O) → toks O j (more t c) ≡ toks I false t ++ (op_if j tok ++ toks O true c))
-    (op : Operator tok code)
-    (s : List ℕ) (at d : ℕ) (low : at ≤ length s) (j : Bool) (w : Tally) (o : List ℕ) (r1 : Walked) (o1 : List ℕ) (h : ParsedAt I false s at d w o r1 o1) where
+    (s : List ℕ) (at d : ℕ) (low : at ≤ length s) (j : Bool) (w : Tally) (o : List ℕ) (r1 : Result Place Wrong) (o1 : List ℕ) (h : ParsedAt I false s at d w o r1 o1) where
   abbrev tail : ℕ → TreeOf I → List ℕ → Res (TreeOf O)
   tail f t = pick (is x) (expect x (expect x (and_then (read f O d) (λ c. give (more t c))))) (give (end t))
 
   -- its first part goes wrong
-  bad-is : (m : ℕ) → r1 ≡ Bad m → (f : ℕ) → steps_at O s at < f → Outcome (toks O j) s w o (read f O d (drop at s)) r1 o1
+  bad-is : (m : Wrong) → r1 ≡ Err m → (f : ℕ) → steps_at O s at < f → Outcome (toks O j) s w o (read f O d (drop at s)) (Err m) o1
   bad-is m e zero g = absurd (omega arith)
   bad-is m e (suc f) g =
       rw (link f d (drop at s)) (bad-on (toks I false) (toks O j) s w w o o (tail f) (read f I d (drop at s)) r1 o1 m e (h.is f (omega arith)))
 
-  pub row-bad : (m : ℕ) → r1 ≡ Bad m → ParsedAt O j s at d w o r1 o1
+  pub row-bad : (m : Wrong) → r1 ≡ Err m → ParsedAt O j s at d w o (Err m) o1
   row-bad m e = record { is = bad-is m e }
 
-  module _ (p : ℕ) (w1 : Tally) (e : r1 ≡ At p w1) (w2 : Tally) (o2 : List ℕ) (jn : Joined j code w1 o1 w2 o2) where
+  module _ (p : ℕ) (w1 : Tally) (e : r1 ≡ came p w1) (w2 : Tally) (o2 : List ℕ) (jn : Joined j tok w1 o1 w2 o2) where
     got : (f : ℕ) → steps_at I s at < f → Took f I false s at d w o p w1 o1
     got f g = took f I false s at d w o r1 o1 p w1 low e (h.is f g)
 
@@ -110,23 +94,23 @@ module _ (O I : Level) (x code : ℕ) (tok : Token) (end : TreeOf I → TreeOf O
     step_is f t q = link f d (drop at s) ∙ ap (λ (y : Res (TreeOf I)). onward y (tail f)) q
 
     tally-2 : (t : TreeOf I) → w1 ≡ note_all (toks I false t) w → w2 ≡ note_all (op_if j tok) (note_all (toks I false t) w)
-    tally-2 t q = jn.tally ∙ (sym (note-op tok code op j w1) ∙ ap (note_all (op_if j tok)) q)
+    tally-2 t q = jn.tally ∙ ap (note_all (op_if j tok)) q
 
     bytes_2 : (t : TreeOf I) → w1 ≡ note_all (toks I false t) w → o1 ≡ put_all (toks I false t) w o → o2 ≡ put_all (op_if j tok) (note_all (toks I false t) w) (put_all (toks I false t) w o)
-    bytes_2 t q u = jn.bytes ∙ (sym (put-op tok code op j w1 o1) ∙ (ap (λ (y : Tally). put_all (op_if j tok) y o1) q ∙ ap (put_all (op_if j tok) (note_all (toks I false t) w)) u))
+    bytes_2 t q u = jn.bytes ∙ (ap (λ (y : Tally). put_all (op_if j tok) y o1) q ∙ ap (put_all (op_if j tok) (note_all (toks I false t) w)) u)
 
     -- the row ends behind it
-    end_is : is_at s p x ≡ false → (f : ℕ) → steps_at O s at < f → Outcome (toks O j) s w o (read f O d (drop at s)) (At p w2) o2
+    end_is : is_at s p x ≡ false → (f : ℕ) → steps_at O s at < f → Outcome (toks O j) s w o (read f O d (drop at s)) (came p w2) o2
     end_is b zero g = absurd (omega arith)
     end_is b (suc f) g =
         let t = got f (omega arith) in
-        subst (λ (y : Res (TreeOf O)). Outcome (toks O j) s w o y (At p w2) o2)
+        subst (λ (y : Res (TreeOf O)). Outcome (toks O j) s w o y (came p w2) o2)
         (sym (step_is f t.tree t.reads ∙ pick_is false (is x) (expect x (expect x (and_then (read f O d) (λ c. give (more t.tree c))))) (give (end t.tree)) (drop p s) (not-here s p x b))) (
-          ap (λ (n : ℕ). At n w2) (sym (back s p t.top)) ∙ ap (At (length s - length (drop p s))) (tally-2 t.tree t.tally ∙ (sym (note-append (toks I false t.tree) (op_if j tok) w) ∙ ap (λ (l : List Token). note_all l w) (sym (toks-end j t.tree)))),
+          ap (λ (n : ℕ). came n w2) (sym (back s p t.top)) ∙ ap (came (length s - length (drop p s))) (tally-2 t.tree t.tally ∙ (sym (note-append (toks I false t.tree) (op_if j tok) w) ∙ ap (λ (l : List Token). note_all l w) (sym (toks-end j t.tree)))),
           bytes_2 t.tree t.tally t.bytes ∙ (sym (put-append (toks I false t.tree) (op_if j tok) w o) ∙ ap (λ (l : List Token). put_all l w o) (sym (toks-end j t.tree))),
         )
 
-    pub row-end : is_at s p x ≡ false → ParsedAt O j s at d w o (At p w2) o2
+    pub row-end : is_at s p x ≡ false → ParsedAt O j s at d w o (came p w2) o2
     row-end b = record { is = end_is b }
 
     module _ (b : is_at s p x ≡ true) (inside : p < length s) where
@@ -136,18 +120,18 @@ module _ (O I : Level) (x code : ℕ) (tok : Token) (end : TreeOf I → TreeOf O
           ∙ expect-yes x (expect x (and_then (read f O d) (λ c. give (more t c)))) s p b inside z
 
       -- its sign stands there once
-      half_is : is_at s (p + 1) x ≡ false → (f : ℕ) → steps_at O s at < f → Outcome (toks O j) s w o (read f O d (drop at s)) (Bad (p + 1)) o2
+      half_is : is_at s (p + 1) x ≡ false → (f : ℕ) → steps_at O s at < f → Outcome (toks O j) s w o (read f O d (drop at s)) (Err (wrong (p + 1))) o2
       half_is n zero g = absurd (omega arith)
       half_is n (suc f) g =
           let t = got f (omega arith) in
-          subst (λ (y : Res (TreeOf O)). Outcome (toks O j) s w o y (Bad (p + 1)) o2)
+          subst (λ (y : Res (TreeOf O)). Outcome (toks O j) s w o y (Err (wrong (p + 1))) o2)
           (sym (step_is f t.tree t.reads ∙ (tail-is f t.tree ∙ expect-no x (and_then (read f O d) (λ c. give (more t.tree c))) (drop (p + 1) s) (not-here s (p + 1) x n))))
-          (ap Bad (sym (back s (p + 1) (omega arith))), tt)
+          (ap (λ (n : ℕ). Err (wrong n)) (sym (back s (p + 1) (omega arith))), tt)
 
-      pub row-half : is_at s (p + 1) x ≡ false → ParsedAt O j s at d w o (Bad (p + 1)) o2
+      pub row-half : is_at s (p + 1) x ≡ false → ParsedAt O j s at d w o (Err (wrong (p + 1))) o2
       row-half n = record { is = half_is n }
 
-      more_of : (t : TreeOf I) → w1 ≡ note_all (toks I false t) w → o1 ≡ put_all (toks I false t) w o → (r : Walked) (o3 : List ℕ) (y : Res (TreeOf O))
+      more_of : (t : TreeOf I) → w1 ≡ note_all (toks I false t) w → o1 ≡ put_all (toks I false t) w o → (r : Result Place Wrong) (o3 : List ℕ) (y : Res (TreeOf O))
           → Outcome (toks O true) s w2 o2 y r o3 → Outcome (toks O j) s w o (onward y (λ c. give (more t c))) r o3
       more_of t q u r o3 (good c l) g =
           let a = tally-2 t q in
@@ -159,11 +143,11 @@ module _ (O I : Level) (x code : ℕ) (tok : Token) (end : TreeOf I → TreeOf O
           ap (λ (y : Tally). put_all (toks O true c) y o2) a ∙ (ap (put_all (toks O true c) (note_all (op_if j tok) (note_all (toks I false t) w))) v
           ∙ (sym (put-append (op_if j tok) (toks O true c) (note_all (toks I false t) w) (put_all (toks I false t) w o))
           ∙ (sym (put-append (toks I false t) (op_if j tok ++ toks O true c) w o) ∙ ap (λ (y : List Token). put_all y w o) (sym (toks_more j t c))))) in
-          (g.0 ∙ ap (At (length s - length l)) n, g.1 ∙ m)
+          (g.0 ∙ ap (came (length s - length l)) n, g.1 ∙ m)
       more_of t q u r o3 (bad l) g = g
       more_of t q u r o3 out g = g
 
-      more-is : is_at s (p + 1) x ≡ true → p + 1 < length s → (r : Walked) (o3 : List ℕ) → ParsedAt O true s (p + 2) d w2 o2 r o3
+      more-is : is_at s (p + 1) x ≡ true → p + 1 < length s → (r : Result Place Wrong) (o3 : List ℕ) → ParsedAt O true s (p + 2) d w2 o2 r o3
           → (f : ℕ) → steps_at O s at < f → Outcome (toks O j) s w o (read f O d (drop at s)) r o3
       more-is n i r o3 k zero g = absurd (omega arith)
       more-is n i r o3 k (suc f) g =
@@ -175,7 +159,7 @@ module _ (O I : Level) (x code : ℕ) (tok : Token) (end : TreeOf I → TreeOf O
           ∙ (expect-yes x (and_then (read f O d) (λ c. give (more t.tree c))) s (p + 1) n i z ∙ ap (λ (v : ℕ). and_then (read f O d) (λ c. give (more t.tree c)) (drop v s)) y))))
           (more_of t.tree t.tally t.bytes r o3 (read f O d (drop (p + 2) s)) (k.is f (omega arith)))
 
-      pub row_more : is_at s (p + 1) x ≡ true → p + 1 < length s → (r : Walked) (o3 : List ℕ) → ParsedAt O true s (p + 2) d w2 o2 r o3 → ParsedAt O j s at d w o r o3
+      pub row_more : is_at s (p + 1) x ≡ true → p + 1 < length s → (r : Result Place Wrong) (o3 : List ℕ) → ParsedAt O true s (p + 2) d w2 o2 r o3 → ParsedAt O j s at d w o r o3
       row_more n i r o3 k = record { is = more-is n i r o3 k }
 
 -- the two rows
@@ -187,12 +171,12 @@ term-link : (f d : ℕ) (l : List ℕ) → read (suc f) term d l ≡ read_row 38
 unfolding read
 term-link f d l = refl
 
-condition-end : (j : Bool) (t : Term) → toks condition j (last t) ≡ tokens_t t ++ op_if j ors
+condition-end : (j : Bool) (t : TermTree) → toks condition j (last t) ≡ tokens_t t ++ op_if j ors
 unfolding tokens_c
 condition-end true t = refl
 condition-end false t = sym (append-nil (tokens_t t))
 
-condition-more : (j : Bool) (t : Term) (c : Condition) → toks condition j (or t c) ≡ tokens_t t ++ (op_if j ors ++ tokens_or c)
+condition-more : (j : Bool) (t : TermTree) (c : ConditionTree) → toks condition j (or t c) ≡ tokens_t t ++ (op_if j ors ++ tokens_or c)
 unfolding tokens_c
 condition-more true t c = refl
 condition-more false t c = refl
@@ -202,49 +186,38 @@ unfolding tokens_c
 term-end true t = refl
 term-end false t = sym (append-nil (tokens_f t))
 
-term-more : (j : Bool) (t : Factor) (c : Term) → toks term j (and t c) ≡ tokens_f t ++ (op_if j ands ++ tokens_and c)
+term-more : (j : Bool) (t : Factor) (c : TermTree) → toks term j (and t c) ≡ tokens_f t ++ (op_if j ands ++ tokens_and c)
 unfolding tokens_c
 term-more true t c = refl
 term-more false t c = refl
 
-or-op : Operator ors 161
-unfolding token_bytes takes
-or-op = record { bytes = refl; two = refl }
+-- a row by how it ends
+module _ (s : List ℕ) (at d : ℕ) (low : at ≤ length s) (j : Bool) (w : Tally) (o : List ℕ) (r1 : Result Place Wrong) (o1 : List ℕ) where
+  pub row_bad : (row : Row) → ParsedAt (part_of row) false s at d w o r1 o1 → (m : Wrong) → r1 ≡ Err m → ParsedAt (row_of row) j s at d w o (Err m) o1
+  row_bad Condition h = row-bad condition term 124 ors last or refl condition-link refl condition-end condition-more s at d low j w o r1 o1 h
+  row_bad Term h = row-bad term factor 38 ands only and refl term-link refl term-end term-more s at d low j w o r1 o1 h
 
-and-op : Operator ands 160
-unfolding token_bytes takes
-and-op = record { bytes = refl; two = refl }
+  module _ (p : ℕ) (w1 : Tally) (e : r1 ≡ came p w1) (w2 : Tally) (o2 : List ℕ) where
+    pub row_end : (row : Row) → ParsedAt (part_of row) false s at d w o r1 o1 → Joined j (token_of (operator_in row)) w1 o1 w2 o2
+        → is_at s p (sign_in row) ≡ false → ParsedAt (row_of row) j s at d w o (came p w2) o2
+    row_end Condition h n = row-end condition term 124 ors last or refl condition-link refl condition-end condition-more s at d low j w o r1 o1 h p w1 e w2 o2 n
+    row_end Term h n = row-end term factor 38 ands only and refl term-link refl term-end term-more s at d low j w o r1 o1 h p w1 e w2 o2 n
 
-module _ (s : List ℕ) (at d : ℕ) (low : at ≤ length s) (j : Bool) (w : Tally) (o : List ℕ) (r1 : Walked) (o1 : List ℕ) where
-  module _ (h : ParsedAt term false s at d w o r1 o1) where
-    pub condition-bad : (m : ℕ) → r1 ≡ Bad m → ParsedAt condition j s at d w o r1 o1
-    condition-bad = row-bad condition term 124 161 ors last or refl condition-link refl condition-end condition-more or-op s at d low j w o r1 o1 h
+    pub row_half : (row : Row) → ParsedAt (part_of row) false s at d w o r1 o1 → Joined j (token_of (operator_in row)) w1 o1 w2 o2
+        → is_at s p (sign_in row) ≡ true → p < length s → is_at s (p + 1) (sign_in row) ≡ false → ParsedAt (row_of row) j s at d w o (Err (wrong (p + 1))) o2
+    row_half Condition h n = row-half condition term 124 ors last or refl condition-link refl condition-end condition-more s at d low j w o r1 o1 h p w1 e w2 o2 n
+    row_half Term h n = row-half term factor 38 ands only and refl term-link refl term-end term-more s at d low j w o r1 o1 h p w1 e w2 o2 n
 
-    module _ (p : ℕ) (w1 : Tally) (e : r1 ≡ At p w1) (w2 : Tally) (o2 : List ℕ) (jn : Joined j 161 w1 o1 w2 o2) where
-      pub condition-ends : is_at s p 124 ≡ false → ParsedAt condition j s at d w o (At p w2) o2
-      condition-ends = row-end condition term 124 161 ors last or refl condition-link refl condition-end condition-more or-op s at d low j w o r1 o1 h p w1 e w2 o2 jn
+    pub row_goes : (row : Row) → ParsedAt (part_of row) false s at d w o r1 o1 → Joined j (token_of (operator_in row)) w1 o1 w2 o2
+        → is_at s p (sign_in row) ≡ true → p < length s → is_at s (p + 1) (sign_in row) ≡ true → p + 1 < length s
+        → (r : Result Place Wrong) (o3 : List ℕ) → ParsedAt (row_of row) true s (p + 2) d w2 o2 r o3 → ParsedAt (row_of row) j s at d w o r o3
+    row_goes Condition h n = row_more condition term 124 ors last or refl condition-link refl condition-end condition-more s at d low j w o r1 o1 h p w1 e w2 o2 n
+    row_goes Term h n = row_more term factor 38 ands only and refl term-link refl term-end term-more s at d low j w o r1 o1 h p w1 e w2 o2 n
 
-      pub condition-half : is_at s p 124 ≡ true → p < length s → is_at s (p + 1) 124 ≡ false → ParsedAt condition j s at d w o (Bad (p + 1)) o2
-      condition-half = row-half condition term 124 161 ors last or refl condition-link refl condition-end condition-more or-op s at d low j w o r1 o1 h p w1 e w2 o2 jn
-
-      pub condition-goes : is_at s p 124 ≡ true → p < length s → is_at s (p + 1) 124 ≡ true → p + 1 < length s → (r : Walked) (o3 : List ℕ)
-          → ParsedAt condition true s (p + 2) d w2 o2 r o3 → ParsedAt condition j s at d w o r o3
-      condition-goes = row_more condition term 124 161 ors last or refl condition-link refl condition-end condition-more or-op s at d low j w o r1 o1 h p w1 e w2 o2 jn
-
-  module _ (h : ParsedAt factor false s at d w o r1 o1) where
-    pub term-bad : (m : ℕ) → r1 ≡ Bad m → ParsedAt term j s at d w o r1 o1
-    term-bad = row-bad term factor 38 160 ands only and refl term-link refl term-end term-more and-op s at d low j w o r1 o1 h
-
-    module _ (p : ℕ) (w1 : Tally) (e : r1 ≡ At p w1) (w2 : Tally) (o2 : List ℕ) (jn : Joined j 160 w1 o1 w2 o2) where
-      pub term-ends : is_at s p 38 ≡ false → ParsedAt term j s at d w o (At p w2) o2
-      term-ends = row-end term factor 38 160 ands only and refl term-link refl term-end term-more and-op s at d low j w o r1 o1 h p w1 e w2 o2 jn
-
-      pub term-half : is_at s p 38 ≡ true → p < length s → is_at s (p + 1) 38 ≡ false → ParsedAt term j s at d w o (Bad (p + 1)) o2
-      term-half = row-half term factor 38 160 ands only and refl term-link refl term-end term-more and-op s at d low j w o r1 o1 h p w1 e w2 o2 jn
-
-      pub term-goes : is_at s p 38 ≡ true → p < length s → is_at s (p + 1) 38 ≡ true → p + 1 < length s → (r : Walked) (o3 : List ℕ)
-          → ParsedAt term true s (p + 2) d w2 o2 r o3 → ParsedAt term j s at d w o r o3
-      term-goes = row_more term factor 38 160 ands only and refl term-link refl term-end term-more and-op s at d low j w o r1 o1 h p w1 e w2 o2 jn
+-- what a part is, is one level below
+pub lower : (row : Row) → rank (row_of row) ≡ rank (part_of row) + 1
+lower Condition = refl
+lower Term = refl
 
 -- ---- a factor
 
@@ -259,40 +232,40 @@ module _ (s : List ℕ) (at d : ℕ) (low : at ≤ length s) (w : Tally) (o : Li
   unfolding read
   factor-link f l = refl
 
-  module _ (b : is_at s at 33 ≡ true) (inside : at < length s) (r1 : Walked) (o1 : List ℕ) (h : ParsedAt factor false s (at + 1) d w o r1 o1) where
+  module _ (b : is_at s at 33 ≡ true) (inside : at < length s) (r1 : Result Place Wrong) (o1 : List ℕ) (h : ParsedAt factor false s (at + 1) d w o r1 o1) where
     not_step : (f : ℕ) → read (suc f) factor d (drop at s) ≡ read_not f (drop (at + 1) s)
     not_step f =
         factor-link f (drop at s) ∙ (pick_is true (is 33) (expect 33 (read_not f)) (pick (is 40) (choose (eqb d 0) stop (expect 40 (read_in f))) read_comparison) (drop at s) (ap (is 33) (head_at s at) ∙ b)
         ∙ expect-yes 33 (read_not f) s at b inside refl)
 
-    not-bad-is : (m : ℕ) → r1 ≡ Bad m → (f : ℕ) → steps_at factor s at < f → Outcome tokens_f s w o (read f factor d (drop at s)) r1 o1
+    not-bad-is : (m : Wrong) → r1 ≡ Err m → (f : ℕ) → steps_at factor s at < f → Outcome tokens_f s w o (read f factor d (drop at s)) (Err m) o1
     not-bad-is m e zero g = absurd (omega arith)
     not-bad-is m e (suc f) g =
         rw (not_step f) (bad-on tokens_f tokens_f s w w o o (λ x. give (not x)) (read f factor d (drop (at + 1) s)) r1 o1 m e (h.is f (omega arith)))
 
-    pub factor-not-bad : (m : ℕ) → r1 ≡ Bad m → ParsedAt factor false s at d w o r1 o1
+    pub factor-not-bad : (m : Wrong) → r1 ≡ Err m → ParsedAt factor false s at d w o (Err m) o1
     factor-not-bad m e = record { is = not-bad-is m e }
 
-    not-of : (p : ℕ) (w1 w2 : Tally) (o2 : List ℕ) → w2 ≡ note_b 1 1 w1 → o2 ≡ put_b (162 ∷ []) w1 o1 → (t : Factor) → w1 ≡ note_all (tokens_f t) w → o1 ≡ put_all (tokens_f t) w o
+    not-of : (p : ℕ) (w1 w2 : Tally) (o2 : List ℕ) → Emitted nots w1 o1 w2 o2 → (t : Factor) → w1 ≡ note_all (tokens_f t) w → o1 ≡ put_all (tokens_f t) w o
         → (w2 ≡ note_all (tokens_f (not t)) w) × (o2 ≡ put_all (tokens_f (not t)) w o)
-    unfolding tokens_c note_all put_all token_bytes takes
-    not-of p w1 w2 o2 a b t q u = (
-      a ∙ (ap (note_b 1 1) q ∙ sym (note-append (tokens_f t) (nots ∷ []) w)),
-      b ∙ (ap (λ (y : Tally). put_b (162 ∷ []) y o1) q ∙ (ap (put_b (162 ∷ []) (note_all (tokens_f t) w)) u ∙ sym (put-append (tokens_f t) (nots ∷ []) w o))),
+    unfolding tokens_c note_all put_all
+    not-of p w1 w2 o2 z t q u = (
+      z.tally ∙ (ap (note_b (length (token_bytes nots)) (takes nots)) q ∙ sym (note-append (tokens_f t) (nots ∷ []) w)),
+      z.bytes ∙ (ap (λ (y : Tally). put_b (token_bytes nots) y o1) q ∙ (ap (put_b (token_bytes nots) (note_all (tokens_f t) w)) u ∙ sym (put-append (tokens_f t) (nots ∷ []) w o))),
     )
 
-    not_is : (p : ℕ) (w1 : Tally) → r1 ≡ At p w1 → (w2 : Tally) (o2 : List ℕ) → w2 ≡ note_b 1 1 w1 → o2 ≡ put_b (162 ∷ []) w1 o1
-        → (f : ℕ) → steps_at factor s at < f → Outcome tokens_f s w o (read f factor d (drop at s)) (At p w2) o2
-    not_is p w1 e w2 o2 a b zero g = absurd (omega arith)
-    not_is p w1 e w2 o2 a b (suc f) g =
+    not_is : (p : ℕ) (w1 : Tally) → r1 ≡ came p w1 → (w2 : Tally) (o2 : List ℕ) → Emitted nots w1 o1 w2 o2
+        → (f : ℕ) → steps_at factor s at < f → Outcome tokens_f s w o (read f factor d (drop at s)) (came p w2) o2
+    not_is p w1 e w2 o2 z zero g = absurd (omega arith)
+    not_is p w1 e w2 o2 z (suc f) g =
         let t = took f factor false s (at + 1) d w o r1 o1 p w1 (omega arith) e (h.is f (omega arith)) in
-        let v = not-of p w1 w2 o2 a b t.tree t.tally t.bytes in
-        subst (λ (y : Res Factor). Outcome tokens_f s w o y (At p w2) o2)
+        let v = not-of p w1 w2 o2 z t.tree t.tally t.bytes in
+        subst (λ (y : Res Factor). Outcome tokens_f s w o y (came p w2) o2)
         (sym (not_step f ∙ ap (λ (y : Res Factor). onward y (λ x. give (not x))) t.reads))
-        (ap (λ (n : ℕ). At n w2) (sym (back s p t.top)) ∙ ap (At (length s - length (drop p s))) v.0, v.1)
+        (ap (λ (n : ℕ). came n w2) (sym (back s p t.top)) ∙ ap (came (length s - length (drop p s))) v.0, v.1)
 
-    pub factor-not : (p : ℕ) (w1 : Tally) → r1 ≡ At p w1 → (w2 : Tally) (o2 : List ℕ) → w2 ≡ note_b 1 1 w1 → o2 ≡ put_b (162 ∷ []) w1 o1 → ParsedAt factor false s at d w o (At p w2) o2
-    factor-not p w1 e w2 o2 a b = record { is = not_is p w1 e w2 o2 a b }
+    pub factor-not : (p : ℕ) (w1 : Tally) → r1 ≡ came p w1 → (w2 : Tally) (o2 : List ℕ) → Emitted nots w1 o1 w2 o2 → ParsedAt factor false s at d w o (came p w2) o2
+    factor-not p w1 e w2 o2 z = record { is = not_is p w1 e w2 o2 z }
 
   module _ (n : is_at s at 33 ≡ false) where
     else-step : (f : ℕ) → read (suc f) factor d (drop at s) ≡ pick (is 40) (choose (eqb d 0) stop (expect 40 (read_in f))) read_comparison (drop at s)
@@ -300,13 +273,13 @@ module _ (s : List ℕ) (at d : ℕ) (low : at ≤ length s) (w : Tally) (o : Li
         factor-link f (drop at s)
         ∙ pick_is false (is 33) (expect 33 (read_not f)) (pick (is 40) (choose (eqb d 0) stop (expect 40 (read_in f))) read_comparison) (drop at s) (not-here s at 33 n)
 
-    compare-is : is_at s at 40 ≡ false → (r : Walked) (q : List ℕ) → ComparedAt s at w o r q → (f : ℕ) → steps_at factor s at < f → Outcome tokens_f s w o (read f factor d (drop at s)) r q
+    compare-is : is_at s at 40 ≡ false → (r : Result Place Wrong) (q : List ℕ) → ComparedAt s at w o r q → (f : ℕ) → steps_at factor s at < f → Outcome tokens_f s w o (read f factor d (drop at s)) r q
     compare-is b r q h zero g = absurd (omega arith)
     compare-is b r q h (suc f) g =
         subst (λ (y : Res Factor). Outcome tokens_f s w o y r q)
         (sym (else-step f ∙ pick_is false (is 40) (choose (eqb d 0) stop (expect 40 (read_in f))) read_comparison (drop at s) (not-here s at 40 b))) h.is
 
-    pub factor-compare : is_at s at 40 ≡ false → (r : Walked) (q : List ℕ) → ComparedAt s at w o r q → ParsedAt factor false s at d w o r q
+    pub factor-compare : is_at s at 40 ≡ false → (r : Result Place Wrong) (q : List ℕ) → ComparedAt s at w o r q → ParsedAt factor false s at d w o r q
     factor-compare b r q h = record { is = compare-is b r q h }
 
     module _ (b : is_at s at 40 ≡ true) where
@@ -315,53 +288,53 @@ module _ (s : List ℕ) (at d : ℕ) (low : at ≤ length s) (w : Tally) (o : Li
           else-step f ∙ (pick_is true (is 40) (choose (eqb d 0) stop (expect 40 (read_in f))) read_comparison (drop at s) (ap (is 40) (head_at s at) ∙ b)
           ∙ ap (λ (y : Bool). choose y stop (expect 40 (read_in f)) (drop at s)) e)
 
-      deep_is : eqb d 0 ≡ true → (q : List ℕ) → (f : ℕ) → steps_at factor s at < f → Outcome tokens_f s w o (read f factor d (drop at s)) (Bad at) q
+      deep_is : eqb d 0 ≡ true → (q : List ℕ) → (f : ℕ) → steps_at factor s at < f → Outcome tokens_f s w o (read f factor d (drop at s)) (Err (wrong at)) q
       deep_is e q zero g = absurd (omega arith)
-      deep_is e q (suc f) g = subst (λ (y : Res Factor). Outcome tokens_f s w o y (Bad at) q) (sym (open_step f true e)) (ap Bad (sym (back s at low)), tt)
+      deep_is e q (suc f) g = subst (λ (y : Res Factor). Outcome tokens_f s w o y (Err (wrong at)) q) (sym (open_step f true e)) (ap (λ (n : ℕ). Err (wrong n)) (sym (back s at low)), tt)
 
-      pub factor-deep : eqb d 0 ≡ true → (q : List ℕ) → ParsedAt factor false s at d w o (Bad at) q
+      pub factor-deep : eqb d 0 ≡ true → (q : List ℕ) → ParsedAt factor false s at d w o (Err (wrong at)) q
       factor-deep e q = record { is = deep_is e q }
 
-      module _ (e : eqb d 0 ≡ false) (inside : at < length s) (r1 : Walked) (o1 : List ℕ) (h : ParsedAt condition false s (at + 1) (d - 1) w o r1 o1) where
+      module _ (e : eqb d 0 ≡ false) (inside : at < length s) (r1 : Result Place Wrong) (o1 : List ℕ) (h : ParsedAt condition false s (at + 1) (d - 1) w o r1 o1) where
         in_step : (f : ℕ) → read (suc f) factor d (drop at s) ≡ read_in f (drop (at + 1) s)
         in_step f = open_step f false e ∙ expect-yes 40 (read_in f) s at b inside refl
 
-        in-bad-is : (m : ℕ) → r1 ≡ Bad m → (f : ℕ) → steps_at factor s at < f → Outcome tokens_f s w o (read f factor d (drop at s)) r1 o1
+        in-bad-is : (m : Wrong) → r1 ≡ Err m → (f : ℕ) → steps_at factor s at < f → Outcome tokens_f s w o (read f factor d (drop at s)) (Err m) o1
         in-bad-is m x zero g = absurd (omega arith)
         in-bad-is m x (suc f) g =
             rw (in_step f) (bad-on tokens_c tokens_f s w w o o (λ c. expect 41 (give (paren c))) (read f condition (d - 1) (drop (at + 1) s)) r1 o1 m x (h.is f (omega arith)))
 
-        pub factor-bad : (m : ℕ) → r1 ≡ Bad m → ParsedAt factor false s at d w o r1 o1
+        pub factor-bad : (m : Wrong) → r1 ≡ Err m → ParsedAt factor false s at d w o (Err m) o1
         factor-bad m x = record { is = in-bad-is m x }
 
-        module _ (p : ℕ) (w1 : Tally) (x : r1 ≡ At p w1) where
+        module _ (p : ℕ) (w1 : Tally) (x : r1 ≡ came p w1) where
           in-took : (f : ℕ) → steps_at factor s at < suc f → Took f condition false s (at + 1) (d - 1) w o p w1 o1
           in-took f g = took f condition false s (at + 1) (d - 1) w o r1 o1 p w1 (omega arith) x (h.is f (omega arith))
 
-          paren-toks : (c : Condition) → tokens_c c ≡ tokens_f (paren c)
+          paren-toks : (c : ConditionTree) → tokens_c c ≡ tokens_f (paren c)
           unfolding tokens_c
           paren-toks c = refl
 
-          shut-is : is_at s p 41 ≡ true → p < length s → (f : ℕ) → steps_at factor s at < f → Outcome tokens_f s w o (read f factor d (drop at s)) (At (p + 1) w1) o1
+          shut-is : is_at s p 41 ≡ true → p < length s → (f : ℕ) → steps_at factor s at < f → Outcome tokens_f s w o (read f factor d (drop at s)) (came (p + 1) w1) o1
           shut-is y i zero g = absurd (omega arith)
           shut-is y i (suc f) g =
               let t = in-took f g in
-              subst (λ (v : Res Factor). Outcome tokens_f s w o v (At (p + 1) w1) o1)
-              (sym (in_step f ∙ (ap (λ (v : Res Condition). onward v (λ c. expect 41 (give (paren c)))) t.reads ∙ expect-yes 41 (give (paren t.tree)) s p y i refl))) (
-                ap (λ (m : ℕ). At m w1) (sym (back s (p + 1) (omega arith))) ∙ ap (At (length s - length (drop (p + 1) s))) (t.tally ∙ ap (λ (l : List Token). note_all l w) (paren-toks t.tree)),
+              subst (λ (v : Res Factor). Outcome tokens_f s w o v (came (p + 1) w1) o1)
+              (sym (in_step f ∙ (ap (λ (v : Res ConditionTree). onward v (λ c. expect 41 (give (paren c)))) t.reads ∙ expect-yes 41 (give (paren t.tree)) s p y i refl))) (
+                ap (λ (m : ℕ). came m w1) (sym (back s (p + 1) (omega arith))) ∙ ap (came (length s - length (drop (p + 1) s))) (t.tally ∙ ap (λ (l : List Token). note_all l w) (paren-toks t.tree)),
                 t.bytes ∙ ap (λ (l : List Token). put_all l w o) (paren-toks t.tree),
               )
 
-          pub factor-shut : is_at s p 41 ≡ true → p < length s → ParsedAt factor false s at d w o (At (p + 1) w1) o1
+          pub factor-shut : is_at s p 41 ≡ true → p < length s → ParsedAt factor false s at d w o (came (p + 1) w1) o1
           factor-shut y i = record { is = shut-is y i }
 
-          left_is : is_at s p 41 ≡ false → (f : ℕ) → steps_at factor s at < f → Outcome tokens_f s w o (read f factor d (drop at s)) (Bad p) o1
+          left_is : is_at s p 41 ≡ false → (f : ℕ) → steps_at factor s at < f → Outcome tokens_f s w o (read f factor d (drop at s)) (Err (wrong p)) o1
           left_is y zero g = absurd (omega arith)
           left_is y (suc f) g =
               let t = in-took f g in
-              subst (λ (v : Res Factor). Outcome tokens_f s w o v (Bad p) o1)
-              (sym (in_step f ∙ (ap (λ (v : Res Condition). onward v (λ c. expect 41 (give (paren c)))) t.reads ∙ expect-no 41 (give (paren t.tree)) (drop p s) (not-here s p 41 y))))
-              (ap Bad (sym (back s p t.top)), tt)
+              subst (λ (v : Res Factor). Outcome tokens_f s w o v (Err (wrong p)) o1)
+              (sym (in_step f ∙ (ap (λ (v : Res ConditionTree). onward v (λ c. expect 41 (give (paren c)))) t.reads ∙ expect-no 41 (give (paren t.tree)) (drop p s) (not-here s p 41 y))))
+              (ap (λ (n : ℕ). Err (wrong n)) (sym (back s p t.top)), tt)
 
-          pub factor-left : is_at s p 41 ≡ false → ParsedAt factor false s at d w o (Bad p) o1
+          pub factor-left : is_at s p 41 ≡ false → ParsedAt factor false s at d w o (Err (wrong p)) o1
           factor-left y = record { is = left_is y }

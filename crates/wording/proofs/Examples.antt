@@ -13,13 +13,15 @@ use Rattle.condition.specs.Token.{equal, unequal, below, at_most, above, at_leas
 use Rattle.condition.specs.Table.{Attribute, value_in}
 use Rattle.condition.specs.Meaning.{and_of, or_of, not_of, compare_of}
 use Rattle.condition.specs.Tree.{spelt}
-use Rattle.wording.specs.declared.Translated.{Translated}
-use Rattle.wording.specs.declared.Translated.TheVariants.{Done, Refused}
+use Rattle.std.specs.Prelude.{Result}
+use Rattle.refusal.specs.declared.Refusal.TheVariants.{Text, Large, Room}
+use Rattle.wording.specs.declared.Stored.{Stored}
+use Rattle.wording.specs.declared.TextFault.{TextFault}
 use Rattle.wording.specs.Grammar.{Condition, last, or, only, and, not, paren, compare, name, integer, ascii, text_s, text_r, text_c, digit, letter, alnum, all, val, ValidS, ValidC, InGrammar}
 use Rattle.wording.specs.Reader.{Reading, accepted, refused, read_rest, read_digits, read_number, read_operand, read_sign, read_comparison, read, reading}
 use Rattle.wording.specs.Stored.{wide, word_for, operand_of, formula_c, deep, code_of, token_bytes, bytes_all, stored_of}
 use Rattle.wording.specs.Meaning.{value_s, compared, means_c}
-use Rattle.wording.specs.Translation.{storing, answer_by, translation_of, stored_by, laid_on, out_after}
+use Rattle.wording.specs.Translation.{done_with, refused_at, storing, answer_by, translation_of, stored_by, laid_on, out_after}
 
 -- a text many times over
 times : ℕ → String → List ℕ
@@ -32,15 +34,15 @@ times (suc n) s = ascii s ++ times n s
 pub record Answered : Type 0 where
   pub text : List ℕ
   pub room : ℕ
-  pub answer : Translated
+  pub answer : Result Stored TextFault
 
 -- done, so many bytes and tokens: four bytes, 5 and 2 for each letter of a name, 11 for a number, 1 for an operator
 is : String → ℕ → ℕ → Answered
-is s n k = record { text = ascii s; room = 600; answer = Done n k }
+is s n k = record { text = ascii s; room = 600; answer = done_with n k }
 
 -- 16, at that offset
 not_at : ℕ → String → Answered
-not_at k s = record { text = ascii s; room = 600; answer = Refused 16 k }
+not_at k s = record { text = ascii s; room = 600; answer = refused_at Text k }
 
 pub answers : List Answered
 answers =
@@ -96,20 +98,20 @@ answers =
     ∷ is "!((((((((((((a==1))))))))))))" 24 4
     ∷ not_at 13 "((((((((((((!(a==1)))))))))))))"
     -- 64 tokens and 65
-    ∷ record { text = ascii "!" ++ (times 15 "a==1&&" ++ ascii "a==1"); room = 600; answer = Done 324 64 }
-    ∷ record { text = ascii "!!" ++ (times 15 "a==1&&" ++ ascii "a==1"); room = 600; answer = Refused 17 0 }
+    ∷ record { text = ascii "!" ++ (times 15 "a==1&&" ++ ascii "a==1"); room = 600; answer = done_with 324 64 }
+    ∷ record { text = ascii "!!" ++ (times 15 "a==1&&" ++ ascii "a==1"); room = 600; answer = refused_at Large 0 }
     -- depth 16 and 17
-    ∷ record { text = times 7 "a==1||a==1&&(" ++ (ascii "a==1" ++ times 7 ")"); room = 600; answer = Done 303 59 }
-    ∷ record { text = ascii "a==1||(" ++ (times 7 "a==1||a==1&&(" ++ (ascii "a==1" ++ times 8 ")")); room = 600; answer = Refused 17 0 }
+    ∷ record { text = times 7 "a==1||a==1&&(" ++ (ascii "a==1" ++ times 7 ")"); room = 600; answer = done_with 303 59 }
+    ∷ record { text = ascii "a==1||(" ++ (times 7 "a==1||a==1&&(" ++ (ascii "a==1" ++ times 8 ")")); room = 600; answer = refused_at Large 0 }
     -- 512 bytes that stop too early, 513, and 513 that go wrong before
-    ∷ record { text = times 512 "a"; room = 600; answer = Refused 16 512 }
-    ∷ record { text = times 513 "a"; room = 600; answer = Refused 16 512 }
-    ∷ record { text = ascii "?" ++ times 512 "a"; room = 600; answer = Refused 16 512 }
+    ∷ record { text = times 512 "a"; room = 600; answer = refused_at Text 512 }
+    ∷ record { text = times 513 "a"; room = 600; answer = refused_at Text 512 }
+    ∷ record { text = ascii "?" ++ times 512 "a"; room = 600; answer = refused_at Text 512 }
     -- the room, one byte short and exact; 17 and 16 come before 8
-    ∷ record { text = ascii "a==1"; room = 22; answer = Refused 8 0 }
-    ∷ record { text = ascii "a==1"; room = 23; answer = Done 23 3 }
-    ∷ record { text = ascii "!!" ++ (times 15 "a==1&&" ++ ascii "a==1"); room = 0; answer = Refused 17 0 }
-    ∷ record { text = ascii "a==1)"; room = 0; answer = Refused 16 4 }
+    ∷ record { text = ascii "a==1"; room = 22; answer = refused_at Room 0 }
+    ∷ record { text = ascii "a==1"; room = 23; answer = done_with 23 3 }
+    ∷ record { text = ascii "!!" ++ (times 15 "a==1&&" ++ ascii "a==1"); room = 0; answer = refused_at Large 0 }
+    ∷ record { text = ascii "a==1)"; room = 0; answer = refused_at Text 4 }
     ∷ []
 
 pub answers-hold : map (λ (e : Answered). translation_of e.text e.room) answers ≡ map (λ (e : Answered). e.answer) answers

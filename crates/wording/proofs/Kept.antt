@@ -9,7 +9,7 @@ use lib.ListN.{length, length-append}
 use Rattle.condition.specs.Token.{Compare, Token, push, ands, ors, nots}
 use Rattle.wording.specs.Grammar.{val, limit, Side, name, integer, Condition, last, or, Term, only, and, Factor, not, paren, compare}
 use Rattle.wording.specs.Grammar.{text_s, text_r, text_c, text_t, text_f, ValidS, ValidC, ValidT, ValidF}
-use Rattle.wording.specs.Stored.{number_of, integer_of, word_for, operand_of, tokens_of}
+use Rattle.wording.specs.Stored.{signed_of, integer_of, word_for, operand_of, tokens_of}
 use Rattle.wording.specs.Inner.Tokens.{tokens_c, tokens_or, tokens_t, tokens_and, tokens_f}
 use Rattle.wording.proofs.Longs.{length-wide}
 use Rattle.wording.proofs.Flat.{tokens-flat}
@@ -22,7 +22,7 @@ abbrev pub Fits : ℤ → Type 0
 Fits (pos n) = n < 0x8000000000000000
 Fits (negsuc n) = n < 0x8000000000000000
 
-pub number_fits : (neg : Bool) (v : ℕ) → v ≤ limit neg → Fits (number_of neg v)
+pub number_fits : (neg : Bool) (v : ℕ) → v ≤ limit neg → Fits (signed_of neg v)
 number_fits true zero h = omega arith
 number_fits true (suc n) h = omega arith
 number_fits false v h = omega arith

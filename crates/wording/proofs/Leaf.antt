@@ -1,178 +1,100 @@
 -- Operands and comparisons where they lie in a text: one law for each way that their readers end.
-use Prim.Native.Nat.{ℕ, ◌+◌, ◌-◌, ◌*◌, ◌/◌, ◌≤◌, ◌<◌}
+use Prim.Native.Nat.{ℕ, suc, ◌+◌, ◌-◌, ◌*◌, ◌/◌, ◌≤◌, ◌<◌}
 use mathlib.Core.Path.{◌≡◌, refl, sym, ap, ◌∙◌}
 use mathlib.Core.Bool.{Bool, true, false, cond, ◌||◌}
 use mathlib.Core.List.{List, [], ◌∷◌}
 use native.Mathlib.Omega.{arith}
-use lib.Dec.{eqb, leb}
-use lib.ListN.{length, drop, get_or, get_or-eq_default}
-use borrow.Author.Tests.{le-leb, lt-leb, eq-eqb}
-use Rattle.condition.specs.Token.{Compare, equal, unequal, below, at_most, above, at_least}
-use Rattle.wording.specs.declared.operands.Found.{Found}
-use Rattle.wording.specs.declared.operands.Found.TheVariants.{Name, Number, Wrong}
-use Rattle.wording.specs.declared.signs.Sign.{Sign}
-use Rattle.wording.specs.declared.signs.Sign.TheVariants.{Is, Not}
+use lib.Dec.{leb, eqb}
+use lib.ListN.{length, take, drop, get_or, length-drop}
+use lib.Seq.{drop-drop}
+use Rattle.std.specs.Int.{is_in_range}
+use Rattle.std.specs.Char.{is_ascii_digit, is_ascii_alphabetic, is_ascii_alphanumeric}
+use Rattle.std.specs.List.{prefix_len}
+use Rattle.std.proofs.lemmas.List.{take_rest}
+use Rattle.std.proofs.lemmas.List.Sums.{prefix_len-le-length}
+use borrow.Author.Tests.{le-leb, lt-leb, eq-eqb, ne_eqb, eqb-true, eqb-false}
+use Rattle.wording.specs.declared.operands.Operand.{Operand}
+use Rattle.wording.specs.declared.operands.Operand.TheVariants.{Name, Number}
+use Rattle.std.specs.Prelude.{Result, Ok, Err}
+use Rattle.wording.specs.declared.walk.Wrong.{Wrong}
+use Rattle.wording.specs.declared.operators.Operator.{Operator}
+use Rattle.wording.specs.declared.operators.Operator.TheVariants.{Equal, Unequal, Below, AtMost, Above, AtLeast}
 use Rattle.wording.specs.Grammar.{digit, letter, alnum, val, limit, Side, name, integer}
 use Rattle.wording.specs.Reader.{Res, good, bad, out, head0, onward, and_then, choose, pick, give, one, is, expect, read_rest, read_digits, read_number, read_operand, read_sign}
-use Rattle.wording.specs.Stored.{code_of}
-use Rattle.wording.specs.Inner.Walk.{is_at}
-use Rattle.wording.specs.Inner.Leaf.{class_of, ClassAt, NameEnd, digits_found, found_of, sign_of}
-use Rattle.wording.proofs.Parts.{rest-no, rest-yes, digits-no, digits-yes, digits-over}
-use Rattle.wording.proofs.Complete.{digit-letter}
-use Rattle.wording.proofs.Places.{head_at, byte-here, not-here, expect-no, expect-yes, pick_is, back}
+use Rattle.wording.specs.Inner.Walk.{wrong}
+use Rattle.wording.specs.Inner.Leaf.{digits_found, found_of, sign, sign_of}
+use Rattle.wording.proofs.Parts.{rest-no, rest-yes, digits-no, digits-yes, digits-over, digit-range}
+use Rattle.wording.proofs.Places.{head_at, byte-here, not-here, expect-yes, pick_is, back}
 
--- ---- kinds of bytes
+-- ---- letters and digits, as the code tests them
 
-module _ (x : ℕ) where
-  class-0 : digit x ≡ false → letter x ≡ false → 0 ≡ class_of x
-  unfolding class_of
-  class-0 a b = rw (a, b) refl
+digit-is : (x : ℕ) → digit x ≡ is_ascii_digit x
+unfolding digit
+digit-is x = refl
 
-  class-1 : digit x ≡ true → 1 ≡ class_of x
-  unfolding class_of
-  class-1 a = rw a refl
+letter-is : (x : ℕ) → letter x ≡ is_ascii_alphabetic x
+unfolding letter
+letter-is x = refl
 
-  class-2 : digit x ≡ false → letter x ≡ true → 2 ≡ class_of x
-  unfolding class_of
-  class-2 a b = rw (a, b) refl
+turned : (a b c : Bool) → ((b || c) || a) ≡ ((a || b) || c)
+turned true true c = refl
+turned false true c = refl
+turned true false true = refl
+turned true false false = refl
+turned false false true = refl
+turned false false false = refl
 
-  -- the ranges, from below
-  pub class-a : x < 48 → 0 ≡ class_of x
-  unfolding digit letter class_of
-  class-a h = rw (lt-leb 48 x h, lt-leb 65 x (omega arith), lt-leb 97 x (omega arith)) refl
-
-  pub class-b : 48 ≤ x → x ≤ 57 → 1 ≡ class_of x
-  unfolding digit class_of
-  class-b h g = rw (le-leb 48 x h, le-leb x 57 g) refl
-
-  pub class-c : 57 < x → x < 65 → 0 ≡ class_of x
-  unfolding digit letter class_of
-  class-c h g = rw (le-leb 48 x (omega arith), lt-leb x 57 h, lt-leb 65 x g, lt-leb 97 x (omega arith)) refl
-
-  pub class-d : 65 ≤ x → x ≤ 90 → 2 ≡ class_of x
-  unfolding digit letter class_of
-  class-d h g = rw (le-leb 48 x (omega arith), lt-leb x 57 (omega arith), le-leb 65 x h, le-leb x 90 g) refl
-
-  pub class-e : 90 < x → x < 97 → 0 ≡ class_of x
-  unfolding digit letter class_of
-  class-e h g = rw (le-leb 48 x (omega arith), lt-leb x 57 (omega arith), le-leb 65 x (omega arith), lt-leb x 90 h, lt-leb 97 x g) refl
-
-  pub class-f : 97 ≤ x → x ≤ 122 → 2 ≡ class_of x
-  unfolding digit letter class_of
-  class-f h g = rw (le-leb 48 x (omega arith), lt-leb x 57 (omega arith), le-leb 65 x (omega arith), lt-leb x 90 (omega arith), le-leb 97 x h, le-leb x 122 g) refl
-
-  pub class-g : 122 < x → 0 ≡ class_of x
-  unfolding digit letter class_of
-  class-g h = rw (le-leb 48 x (omega arith), lt-leb x 57 (omega arith), le-leb 65 x (omega arith), lt-leb x 90 (omega arith), le-leb 97 x (omega arith), lt-leb x 122 h) refl
-
-pub class-end : (s : List ℕ) (p : ℕ) → length s ≤ p → ClassAt s p 0
-class-end s p h = record { is = class-a 0 (omega arith) ∙ ap class_of (sym (get_or-eq_default s 0 h)); inside = λ g. absurd (omega arith) }
-
--- back from the class
-data Class (x : ℕ) : ℕ → Type 0 where
-  other : digit x ≡ false → letter x ≡ false → Class x 0
-  digits : digit x ≡ true → Class x 1
-  letters : digit x ≡ false → letter x ≡ true → Class x 2
-
-class : (x : ℕ) → Class x (class_of x)
-unfolding class_of
-class x = by (digit x) (letter x) refl refl
-  where
-    by : (a b : Bool) → digit x ≡ a → letter x ≡ b → Class x (cond a 1 (cond b 2 0))
-    by true b e f = digits e
-    by false true e f = letters e f
-    by false false e f = other e f
-
-pub is_digit : (x : ℕ) → class_of x ≡ 1 → digit x ≡ true
-is_digit x e = by (class_of x) e (class x)
-  where
-    by : (k : ℕ) → k ≡ 1 → Class x k → digit x ≡ true
-    by k h (other a b) = absurd (omega arith)
-    by k h (digits a) = a
-    by k h (letters a b) = absurd (omega arith)
-
-no_digit : (x : ℕ) → (class_of x ≡ 1 → ⊥) → digit x ≡ false
-no_digit x n = by (class_of x) n (class x)
-  where
-    by : (k : ℕ) → (k ≡ 1 → ⊥) → Class x k → digit x ≡ false
-    by k h (other a b) = a
-    by k h (digits a) = absurd (h refl)
-    by k h (letters a b) = a
-
-is-letter : (x : ℕ) → class_of x ≡ 2 → letter x ≡ true
-is-letter x e = by (class_of x) e (class x)
-  where
-    by : (k : ℕ) → k ≡ 2 → Class x k → letter x ≡ true
-    by k h (other a b) = absurd (omega arith)
-    by k h (digits a) = absurd (omega arith)
-    by k h (letters a b) = b
-
-no-letter : (x : ℕ) → (class_of x ≡ 2 → ⊥) → letter x ≡ false
-no-letter x n = by (class_of x) n (class x)
-  where
-    by : (k : ℕ) → (k ≡ 2 → ⊥) → Class x k → letter x ≡ false
-    by k h (other a b) = b
-    by k h (digits a) = digit-letter x a
-    by k h (letters a b) = absurd (h refl)
-
-is-alnum : (x : ℕ) → (class_of x ≡ 0 → ⊥) → alnum x ≡ true
-unfolding alnum
-is-alnum x n = by (class_of x) n (class x)
-  where
-    by : (k : ℕ) → (k ≡ 0 → ⊥) → Class x k → (letter x || digit x) ≡ true
-    by k h (other a b) = absurd (h refl)
-    by k h (digits a) = rw (digit-letter x a, a) refl
-    by k h (letters a b) = rw b refl
-
-no-alnum : (x : ℕ) → class_of x ≡ 0 → alnum x ≡ false
-unfolding alnum
-no-alnum x e = by (class_of x) e (class x)
-  where
-    by : (k : ℕ) → k ≡ 0 → Class x k → (letter x || digit x) ≡ false
-    by k h (other a b) = rw (b, a) refl
-    by k h (digits a) = absurd (omega arith)
-    by k h (letters a b) = absurd (omega arith)
+alnum-is : (x : ℕ) → alnum x ≡ is_ascii_alphanumeric x
+unfolding alnum letter digit
+alnum-is x = turned (is_in_range 48 57 x) (is_in_range 65 90 x) (is_in_range 97 122 x)
 
 -- ---- names
+
+-- how many letters and digits a text begins with
+abbrev run_of : List ℕ → ℕ
+run_of l = prefix_len is_ascii_alphanumeric l
+
+rest-is : (l : List ℕ) → read_rest l ≡ good (take (run_of l) l) (drop (run_of l) l)
+unfolding read_rest
+rest-is [] = refl
+rest-is (b ∷ r) = by b r (is_ascii_alphanumeric b) refl (rest-is r)
+  where
+    by : (b : ℕ) (r : List ℕ) (x : Bool) → is_ascii_alphanumeric b ≡ x → read_rest r ≡ good (take (run_of r) r) (drop (run_of r) r)
+        → read_rest (b ∷ r) ≡ good (take (cond x (1 + run_of r) 0) (b ∷ r)) (drop (cond x (1 + run_of r) 0) (b ∷ r))
+    by b r true e h = let q : 1 + run_of r ≡ suc (run_of r) = omega arith in rw q (rest-yes b r (alnum-is b ∙ e) ∙ ap (λ y. onward y (λ n l. good (b ∷ n) l)) h)
+    by b r false e h = rest-no (b ∷ r) (alnum-is b ∙ e)
 
 module _ (s : List ℕ) (at : ℕ) where
   next-at : at < length s → drop at s ≡ get_or s at 0 ∷ drop (at + 1) s
   next-at h = byte-here s at (get_or s at 0) (eq-eqb (get_or s at 0) (get_or s at 0) refl) h
 
-  pub name-stop : at ≤ length s → class_of (get_or s at 0) ≡ 0 → NameEnd s at at
-  name-stop h e = record { name = []; reads = rest-no (drop at s) (ap alnum (head_at s at) ∙ no-alnum (get_or s at 0) e); low = omega arith; top = h }
-
-  pub name-more : at < length s → (class_of (get_or s at 0) ≡ 0 → ⊥) → (r : ℕ) → NameEnd s (at + 1) r → NameEnd s at r
-  name-more h e r k =
-      let l = k.low in
-      record {
-        name = get_or s at 0 ∷ k.name;
-        reads = ap read_rest (next-at h) ∙ (rest-yes (get_or s at 0) (drop (at + 1) s) (is-alnum (get_or s at 0) e) ∙ ap (λ y. onward y (λ n m. good (get_or s at 0 ∷ n) m)) k.reads);
-        low = omega arith;
-        top = k.top;
-      }
+  digit-at : (b : Bool) → is_ascii_digit (get_or s at 0) ≡ b → digit (head0 (drop at s)) ≡ b
+  digit-at b e = ap digit (head_at s at) ∙ (digit-is (get_or s at 0) ∙ e)
 
   -- ---- numbers
 
-  pub number-stop : (neg : Bool) (v : ℕ) → at ≤ length s → (class_of (get_or s at 0) ≡ 1 → ⊥) → Number neg v at ≡ digits_found (length s) neg v (read_digits neg v (drop at s))
+  pub number-stop : (neg : Bool) (v : ℕ) → at ≤ length s → is_ascii_digit (get_or s at 0) ≡ false → Ok (Number neg v at) ≡ digits_found (length s) neg v (read_digits neg v (drop at s))
   unfolding val
   number-stop neg v h e =
-      ap (Number neg v) (sym (back s at h)) ∙ ap (digits_found (length s) neg v) (sym (digits-no neg v (drop at s) (ap digit (head_at s at) ∙ no_digit (get_or s at 0) e)))
+      ap (λ (n : ℕ). Ok (Number neg v n)) (sym (back s at h)) ∙ ap (digits_found (length s) neg v) (sym (digits-no neg v (drop at s) (digit-at false e)))
 
   over : (neg : Bool) (v d : ℕ) → d ≤ 9 → (limit neg - d) / 10 < v → limit neg < v * 10 + d
   over true v d h g = omega arith
   over false v d h g = omega arith
 
-  pub under : (neg : Bool) (v d : ℕ) → d ≤ 9 → v ≤ (limit neg - d) / 10 → v * 10 + d ≤ limit neg
+  under : (neg : Bool) (v d : ℕ) → d ≤ 9 → v ≤ (limit neg - d) / 10 → v * 10 + d ≤ limit neg
   under true v d h g = omega arith
   under false v d h g = omega arith
 
-  pub number-over : (neg : Bool) (v d : ℕ) → at ≤ length s → class_of (get_or s at 0) ≡ 1 → (d ≡ get_or s at 0 - 48) × (d ≤ 9) → (limit neg - d) / 10 < v
-      → Wrong at ≡ digits_found (length s) neg v (read_digits neg v (drop at s))
+  digit-low : is_ascii_digit (get_or s at 0) ≡ true → get_or s at 0 - 48 ≤ 9
+  digit-low e = let h = digit-range (get_or s at 0) (digit-is (get_or s at 0) ∙ e) in omega arith
+
+  pub number-over : (neg : Bool) (v d : ℕ) → at ≤ length s → is_ascii_digit (get_or s at 0) ≡ true → d ≡ get_or s at 0 - 48 → (limit neg - d) / 10 < v
+      → Err (wrong at) ≡ digits_found (length s) neg v (read_digits neg v (drop at s))
   number-over neg v d h e q g =
       let o : leb (v * 10 + (head0 (drop at s) - 48)) (limit neg) ≡ false =
-      ap (λ (y : ℕ). leb (v * 10 + (y - 48)) (limit neg)) (head_at s at) ∙ lt-leb (v * 10 + (get_or s at 0 - 48)) (limit neg) (omega (arith, over neg v d q.1 g)) in
-      ap Wrong (sym (back s at h)) ∙ ap (digits_found (length s) neg v) (sym (digits-over neg v (drop at s) (ap digit (head_at s at) ∙ is_digit (get_or s at 0) e) o))
+      ap (λ (y : ℕ). leb (v * 10 + (y - 48)) (limit neg)) (head_at s at) ∙ lt-leb (v * 10 + (get_or s at 0 - 48)) (limit neg) (omega (arith, over neg v d (omega (arith, digit-low e)) g)) in
+      ap (λ (n : ℕ). Err (wrong n)) (sym (back s at h)) ∙ ap (digits_found (length s) neg v) (sym (digits-over neg v (drop at s) (digit-at true e) o))
 
   more_of : (neg : Bool) (v b : ℕ) (x : Res (List ℕ)) → digits_found (length s) neg (v * 10 + (b - 48)) x ≡ digits_found (length s) neg v (onward x (λ n m. good (b ∷ n) m))
   unfolding val
@@ -180,19 +102,19 @@ module _ (s : List ℕ) (at : ℕ) where
   more_of neg v b (bad l) = refl
   more_of neg v b out = refl
 
-  pub number_more : (neg : Bool) (v d : ℕ) → at < length s → class_of (get_or s at 0) ≡ 1 → (d ≡ get_or s at 0 - 48) × (d ≤ 9) → v ≤ (limit neg - d) / 10
-      → (r : Found) → r ≡ digits_found (length s) neg (v * 10 + d) (read_digits neg (v * 10 + d) (drop (at + 1) s)) → r ≡ digits_found (length s) neg v (read_digits neg v (drop at s))
+  pub number_more : (neg : Bool) (v d : ℕ) → at < length s → is_ascii_digit (get_or s at 0) ≡ true → d ≡ get_or s at 0 - 48 → v ≤ (limit neg - d) / 10
+      → (r : Result Operand Wrong) → r ≡ digits_found (length s) neg (v * 10 + d) (read_digits neg (v * 10 + d) (drop (at + 1) s)) → r ≡ digits_found (length s) neg v (read_digits neg v (drop at s))
   number_more neg v d h e q g r k =
       let b = get_or s at 0 in
-      let u : v * 10 + d ≡ v * 10 + (b - 48) = ap (λ (y : ℕ). v * 10 + y) q.0 in
-      let f : leb (v * 10 + (b - 48)) (limit neg) ≡ true = le-leb (v * 10 + (b - 48)) (limit neg) (omega (arith, under neg v d q.1 g)) in
+      let u : v * 10 + d ≡ v * 10 + (b - 48) = ap (λ (y : ℕ). v * 10 + y) q in
+      let f : leb (v * 10 + (b - 48)) (limit neg) ≡ true = le-leb (v * 10 + (b - 48)) (limit neg) (omega (arith, under neg v d (omega (arith, digit-low e)) g)) in
       k ∙ (ap (λ (y : ℕ). digits_found (length s) neg y (read_digits neg y (drop (at + 1) s))) u
       ∙ (more_of neg v b (read_digits neg (v * 10 + (b - 48)) (drop (at + 1) s))
-      ∙ ap (digits_found (length s) neg v) (sym (ap (read_digits neg v) (next-at h) ∙ digits-yes neg v b (drop (at + 1) s) (is_digit b e) f))))
+      ∙ ap (digits_found (length s) neg v) (sym (ap (read_digits neg v) (next-at h) ∙ digits-yes neg v b (drop (at + 1) s) (digit-is b ∙ e) f))))
 
-  pub number-none : (neg : Bool) → at ≤ length s → (class_of (get_or s at 0) ≡ 1 → ⊥) → Wrong at ≡ found_of (length s) (read_number neg (drop at s))
+  pub number-none : (neg : Bool) → at ≤ length s → is_ascii_digit (get_or s at 0) ≡ false → Err (wrong at) ≡ found_of (length s) (read_number neg (drop at s))
   unfolding read_number
-  number-none neg h e = ap Wrong (sym (back s at h)) ∙ ap (found_of (length s)) (sym (one-stop (drop at s) (ap digit (head_at s at) ∙ no_digit (get_or s at 0) e)))
+  number-none neg h e = ap (λ (n : ℕ). Err (wrong n)) (sym (back s at h)) ∙ ap (found_of (length s)) (sym (one-stop (drop at s) (digit-at false e)))
     where
       one-stop : (l : List ℕ) → digit (head0 l) ≡ false → one digit (λ b. and_then (read_digits neg (b - 48)) (λ n. give (integer neg b n))) l ≡ bad l
       one-stop [] q = refl
@@ -203,7 +125,7 @@ module _ (s : List ℕ) (at : ℕ) where
   first_of neg b (bad l) = refl
   first_of neg b out = refl
 
-  pub number-first : (neg : Bool) (d : ℕ) → at < length s → class_of (get_or s at 0) ≡ 1 → d ≡ get_or s at 0 - 48 → (r : Found)
+  pub number-first : (neg : Bool) (d : ℕ) → at < length s → is_ascii_digit (get_or s at 0) ≡ true → d ≡ get_or s at 0 - 48 → (r : Result Operand Wrong)
       → r ≡ digits_found (length s) neg d (read_digits neg d (drop (at + 1) s)) → r ≡ found_of (length s) (read_number neg (drop at s))
   unfolding read_number
   number-first neg d h e q r k =
@@ -211,157 +133,119 @@ module _ (s : List ℕ) (at : ℕ) where
       k ∙ (ap (λ (y : ℕ). digits_found (length s) neg y (read_digits neg y (drop (at + 1) s))) q
       ∙ (first_of neg b (read_digits neg (b - 48) (drop (at + 1) s))
       ∙ ap (found_of (length s)) (sym (ap (one digit (λ b. and_then (read_digits neg (b - 48)) (λ n. give (integer neg b n)))) (next-at h)
-      ∙ ap (λ (y : Bool). choose y (λ m. and_then (read_digits neg (b - 48)) (λ n. give (integer neg b n)) (drop (at + 1) s)) bad (b ∷ drop (at + 1) s)) (is_digit b e)))))
+      ∙ ap (λ (y : Bool). choose y (λ m. and_then (read_digits neg (b - 48)) (λ n. give (integer neg b n)) (drop (at + 1) s)) bad (b ∷ drop (at + 1) s)) (digit-is b ∙ e)))))
 
   -- ---- operands
 
   abbrev read_name : List ℕ → Res Side
   read_name = one letter (λ b. and_then read_rest (λ n. give (name b n)))
 
-  pub op-name : at < length s → class_of (get_or s at 0) ≡ 2 → (e : ℕ) → NameEnd s (at + 1) e → Name e ≡ found_of (length s) (read_operand (drop at s))
+  letter-at : (b : Bool) → is_ascii_alphabetic (get_or s at 0) ≡ b → letter (head0 (drop at s)) ≡ b
+  letter-at b e = ap letter (head_at s at) ∙ (letter-is (get_or s at 0) ∙ e)
+
+  -- a name ends inside the text
+  pub name_inside : (r : ℕ) → at < length s → r ≡ run_of (take (length s - (at + 1)) (drop (at + 1) s)) → at + 1 + r ≤ length s
+  name_inside r h e =
+      omega (arith, prefix_len-le-length is_ascii_alphanumeric (drop (at + 1) s), length-drop (at + 1) s, ap run_of (take_rest s (at + 1)))
+
+  pub op-name : (r : ℕ) → at < length s → is_ascii_alphabetic (get_or s at 0) ≡ true → r ≡ run_of (take (length s - (at + 1)) (drop (at + 1) s))
+      → Ok (Name (at + 1 + r)) ≡ found_of (length s) (read_operand (drop at s))
   unfolding read_operand
-  op-name h c e k =
+  op-name r h c e =
       let b = get_or s at 0 in
-      let l = is-letter b c in
-      ap Name (sym (back s e k.top))
-      ∙ ap (found_of (length s)) (sym (pick_is true letter read_name (pick (is 45) (expect 45 (read_number true)) (read_number false)) (drop at s) (ap letter (head_at s at) ∙ l)
-      ∙ (ap read_name (next-at h) ∙ (ap (λ (y : Bool). choose y (λ m. and_then read_rest (λ n. give (name b n)) (drop (at + 1) s)) bad (b ∷ drop (at + 1) s)) l
-      ∙ ap (λ y. onward y (λ n. give (name b n))) k.reads))))
+      let q : run_of (drop (at + 1) s) ≡ r = sym (e ∙ ap run_of (take_rest s (at + 1))) in
+      let reads : read_rest (drop (at + 1) s) ≡ good (take r (drop (at + 1) s)) (drop (at + 1 + r) s) =
+      rest-is (drop (at + 1) s) ∙ (ap (λ (k : ℕ). good (take k (drop (at + 1) s)) (drop k (drop (at + 1) s))) q ∙ ap (good (take r (drop (at + 1) s))) (drop-drop r (at + 1) s)) in
+      ap (λ (n : ℕ). Ok (Name n)) (sym (back s (at + 1 + r) (name_inside r h e)))
+      ∙ ap (found_of (length s)) (sym (pick_is true letter read_name (pick (is 45) (expect 45 (read_number true)) (read_number false)) (drop at s) (letter-at true c)
+      ∙ (ap read_name (next-at h) ∙ (ap (λ (y : Bool). choose y (λ m. and_then read_rest (λ n. give (name b n)) (drop (at + 1) s)) bad (b ∷ drop (at + 1) s)) (letter-is b ∙ c)
+      ∙ ap (λ y. onward y (λ n. give (name b n))) reads))))
 
-  not-name : (class_of (get_or s at 0) ≡ 2 → ⊥) → read_operand (drop at s) ≡ pick (is 45) (expect 45 (read_number true)) (read_number false) (drop at s)
+  not-name : is_ascii_alphabetic (get_or s at 0) ≡ false → read_operand (drop at s) ≡ pick (is 45) (expect 45 (read_number true)) (read_number false) (drop at s)
   unfolding read_operand
-  not-name c = pick_is false letter read_name (pick (is 45) (expect 45 (read_number true)) (read_number false)) (drop at s) (ap letter (head_at s at) ∙ no-letter (get_or s at 0) c)
+  not-name c = pick_is false letter read_name (pick (is 45) (expect 45 (read_number true)) (read_number false)) (drop at s) (letter-at false c)
 
-  pub op-minus : (class_of (get_or s at 0) ≡ 2 → ⊥) → is_at s at 45 ≡ true → at < length s → (r : Found)
+  pub op-minus : is_ascii_alphabetic (get_or s at 0) ≡ false → get_or s at 0 ≡ 45 → at < length s → (r : Result Operand Wrong)
       → r ≡ found_of (length s) (read_number true (drop (at + 1) s)) → r ≡ found_of (length s) (read_operand (drop at s))
   op-minus c b h r k =
-      k ∙ ap (found_of (length s)) (sym (not-name c ∙ (pick_is true (is 45) (expect 45 (read_number true)) (read_number false) (drop at s) (ap (is 45) (head_at s at) ∙ b)
-      ∙ expect-yes 45 (read_number true) s at b h refl)))
+      let e = eq-eqb (get_or s at 0) 45 b in
+      k ∙ ap (found_of (length s)) (sym (not-name c ∙ (pick_is true (is 45) (expect 45 (read_number true)) (read_number false) (drop at s) (ap (is 45) (head_at s at) ∙ e)
+      ∙ expect-yes 45 (read_number true) s at e h refl)))
 
-  pub op-plain : (class_of (get_or s at 0) ≡ 2 → ⊥) → is_at s at 45 ≡ false → (r : Found) → r ≡ found_of (length s) (read_number false (drop at s)) → r ≡ found_of (length s) (read_operand (drop at s))
+  pub op-plain : is_ascii_alphabetic (get_or s at 0) ≡ false → (get_or s at 0 ≡ 45 → ⊥) → (r : Result Operand Wrong)
+      → r ≡ found_of (length s) (read_number false (drop at s)) → r ≡ found_of (length s) (read_operand (drop at s))
   op-plain c b r k =
-      k ∙ ap (found_of (length s)) (sym (not-name c ∙ pick_is false (is 45) (expect 45 (read_number true)) (read_number false) (drop at s) (not-here s at 45 b)))
+      k ∙ ap (found_of (length s)) (sym (not-name c ∙ pick_is false (is 45) (expect 45 (read_number true)) (read_number false) (drop at s) (not-here s at 45 (ne_eqb (get_or s at 0) 45 b))))
 
-pub limit-low : (neg : Bool) → 9 ≤ limit neg
-limit-low true = omega arith
-limit-low false = omega arith
+-- ---- the six comparisons, by the bytes that stand there
 
-pub limit-high : (neg : Bool) → limit neg ≤ 9223372036854775808
-limit-high true = omega arith
-limit-high false = omega arith
+-- what the reader of comparisons gives on these bytes, of a text of n that they end
+abbrev pub Gives : ℕ → List ℕ → Result (Operator × ℕ) Wrong → Type 0
+Gives n l r = r ≡ sign_of n (read_sign l)
 
--- ---- the six comparisons
+abbrev pub First : List ℕ → ℕ
+First l = get_or l 0 0
 
-module _ (s : List ℕ) (at : ℕ) (low : at ≤ length s) where
-  abbrev sign_a : List ℕ → Res Compare
-  sign_a = expect 61 (expect 61 (give equal))
+abbrev pub Second : List ℕ → ℕ
+Second l = get_or l 1 0
 
-  abbrev sign_b : List ℕ → Res Compare
-  sign_b = expect 33 (expect 61 (give unequal))
-
-  abbrev sign_c : List ℕ → Res Compare
-  sign_c = expect 60 (pick (is 61) (expect 61 (give at_most)) (give below))
-
-  abbrev sign_d : List ℕ → Res Compare
-  sign_d = expect 62 (pick (is 61) (expect 61 (give at_least)) (give above))
-
-  yes-at : (x : ℕ) → is_at s at x ≡ true → is x (head0 (drop at s)) ≡ true
-  yes-at x b = ap (is x) (head_at s at) ∙ b
-
-  step-a : is_at s at 61 ≡ true → read_sign (drop at s) ≡ sign_a (drop at s)
+module _ (n at : ℕ) where
+  pub equal_is : (l : List ℕ) → length l + at ≡ n → First l ≡ 61 → Second l ≡ 61 → Gives n l (sign Equal (at + 2))
   unfolding read_sign
-  step-a b = pick_is true (is 61) sign_a (pick (is 33) sign_b (pick (is 60) sign_c sign_d)) (drop at s) (yes-at 61 b)
+  equal_is [] h a b = absurd (omega arith)
+  equal_is (x ∷ []) h a b = absurd (omega arith)
+  equal_is (x ∷ y ∷ l) h a b = rw (a, b) (ap (sign Equal) (omega arith))
 
-  step-b : is_at s at 61 ≡ false → is_at s at 33 ≡ true → read_sign (drop at s) ≡ sign_b (drop at s)
+  pub unequal_is : (l : List ℕ) → length l + at ≡ n → First l ≡ 33 → Second l ≡ 61 → Gives n l (sign Unequal (at + 2))
   unfolding read_sign
-  step-b n b =
-      pick_is false (is 61) sign_a (pick (is 33) sign_b (pick (is 60) sign_c sign_d)) (drop at s) (not-here s at 61 n)
-      ∙ pick_is true (is 33) sign_b (pick (is 60) sign_c sign_d) (drop at s) (yes-at 33 b)
+  unequal_is [] h a b = absurd (omega arith)
+  unequal_is (x ∷ []) h a b = absurd (omega arith)
+  unequal_is (x ∷ y ∷ l) h a b = rw (a, b) (ap (sign Unequal) (omega arith))
 
-  step-c : is_at s at 61 ≡ false → is_at s at 33 ≡ false → is_at s at 60 ≡ true → read_sign (drop at s) ≡ sign_c (drop at s)
+  pub at_most_is : (l : List ℕ) → length l + at ≡ n → First l ≡ 60 → Second l ≡ 61 → Gives n l (sign AtMost (at + 2))
   unfolding read_sign
-  step-c n m b =
-      pick_is false (is 61) sign_a (pick (is 33) sign_b (pick (is 60) sign_c sign_d)) (drop at s) (not-here s at 61 n)
-      ∙ (pick_is false (is 33) sign_b (pick (is 60) sign_c sign_d) (drop at s) (not-here s at 33 m)
-      ∙ pick_is true (is 60) sign_c sign_d (drop at s) (yes-at 60 b))
+  at_most_is [] h a b = absurd (omega arith)
+  at_most_is (x ∷ []) h a b = absurd (omega arith)
+  at_most_is (x ∷ y ∷ l) h a b = rw (a, b) (ap (sign AtMost) (omega arith))
 
-  step-d : is_at s at 61 ≡ false → is_at s at 33 ≡ false → is_at s at 60 ≡ false → read_sign (drop at s) ≡ sign_d (drop at s)
+  pub at_least_is : (l : List ℕ) → length l + at ≡ n → First l ≡ 62 → Second l ≡ 61 → Gives n l (sign AtLeast (at + 2))
   unfolding read_sign
-  step-d n m k =
-      pick_is false (is 61) sign_a (pick (is 33) sign_b (pick (is 60) sign_c sign_d)) (drop at s) (not-here s at 61 n)
-      ∙ (pick_is false (is 33) sign_b (pick (is 60) sign_c sign_d) (drop at s) (not-here s at 33 m)
-      ∙ pick_is false (is 60) sign_c sign_d (drop at s) (not-here s at 60 k))
+  at_least_is [] h a b = absurd (omega arith)
+  at_least_is (x ∷ []) h a b = absurd (omega arith)
+  at_least_is (x ∷ y ∷ l) h a b = rw (a, b) (ap (sign AtLeast) (omega arith))
 
-  -- by what the reader gives
-  gives-is : (c : Compare) (e : ℕ) → e ≤ length s → read_sign (drop at s) ≡ good c (drop e s) → Is (code_of c) e ≡ sign_of (length s) (read_sign (drop at s))
-  gives-is c e h q = ap (Is (code_of c)) (sym (back s e h)) ∙ ap (sign_of (length s)) (sym q)
+  pub below_is : (l : List ℕ) → length l + at ≡ n → First l ≡ 60 → (Second l ≡ 61 → ⊥) → Gives n l (sign Below (at + 1))
+  unfolding read_sign
+  below_is [] h a b = absurd (omega arith)
+  below_is (x ∷ []) h a b = rw a (ap (sign Below) (omega arith))
+  below_is (x ∷ y ∷ l) h a b = rw (a, ne_eqb y 61 b) (ap (sign Below) (omega arith))
 
-  gives-not : (e : ℕ) → e ≤ length s → read_sign (drop at s) ≡ bad (drop e s) → Not e ≡ sign_of (length s) (read_sign (drop at s))
-  gives-not e h q = ap Not (sym (back s e h)) ∙ ap (sign_of (length s)) (sym q)
+  pub above_is : (l : List ℕ) → length l + at ≡ n → First l ≡ 62 → (Second l ≡ 61 → ⊥) → Gives n l (sign Above (at + 1))
+  unfolding read_sign
+  above_is [] h a b = absurd (omega arith)
+  above_is (x ∷ []) h a b = rw a (ap (sign Above) (omega arith))
+  above_is (x ∷ y ∷ l) h a b = rw (a, ne_eqb y 61 b) (ap (sign Above) (omega arith))
 
-  two : at + 1 + 1 ≡ at + 2
-  two = omega arith
+  equal_half : (l : List ℕ) → length l + at ≡ n → First l ≡ 61 → (Second l ≡ 61 → ⊥) → Gives n l (Err (wrong (at + 1)))
+  unfolding read_sign
+  equal_half [] h a b = absurd (omega arith)
+  equal_half (x ∷ []) h a b = rw a (ap (λ (k : ℕ). Err (wrong k)) (omega arith))
+  equal_half (x ∷ y ∷ l) h a b = rw (a, ne_eqb y 61 b) (ap (λ (k : ℕ). Err (wrong k)) (omega arith))
 
-  -- x and then `=`
-  both_bytes : (x : ℕ) (c : Compare) → eqb x x ≡ true → is_at s at x ≡ true → at < length s → is_at s (at + 1) 61 ≡ true → at + 1 < length s
-      → expect x (expect 61 (give c)) (drop at s) ≡ good c (drop (at + 2) s)
-  both_bytes x c z b h d i =
-      expect-yes x (expect 61 (give c)) s at b h z ∙ (expect-yes 61 (give c) s (at + 1) d i refl ∙ ap (λ (n : ℕ). good c (drop n s)) two)
+  unequal_half : (l : List ℕ) → length l + at ≡ n → First l ≡ 33 → (Second l ≡ 61 → ⊥) → Gives n l (Err (wrong (at + 1)))
+  unfolding read_sign
+  unequal_half [] h a b = absurd (omega arith)
+  unequal_half (x ∷ []) h a b = rw a (ap (λ (k : ℕ). Err (wrong k)) (omega arith))
+  unequal_half (x ∷ y ∷ l) h a b = rw (a, ne_eqb y 61 b) (ap (λ (k : ℕ). Err (wrong k)) (omega arith))
 
-  one_byte : (x : ℕ) (c : Compare) → eqb x x ≡ true → is_at s at x ≡ true → at < length s → is_at s (at + 1) 61 ≡ false → expect x (expect 61 (give c)) (drop at s) ≡ bad (drop (at + 1) s)
-  one_byte x c z b h d = expect-yes x (expect 61 (give c)) s at b h z ∙ expect-no 61 (give c) (drop (at + 1) s) (not-here s (at + 1) 61 d)
+  pub half_is : (l : List ℕ) → length l + at ≡ n → ((First l ≡ 61 → ⊥) → First l ≡ 33) → (Second l ≡ 61 → ⊥) → Gives n l (Err (wrong (at + 1)))
+  half_is l h a b = by (eqb (First l) 61) refl
+    where
+      by : (x : Bool) → eqb (First l) 61 ≡ x → Gives n l (Err (wrong (at + 1)))
+      by true e = equal_half l h (eqb-true (First l) 61 e) b
+      by false e = unequal_half l h (a (eqb-false (First l) 61 e)) b
 
-  long-one : (x : ℕ) (c e : Compare) → eqb x x ≡ true → is_at s at x ≡ true → at < length s → is_at s (at + 1) 61 ≡ true → at + 1 < length s
-      → expect x (pick (is 61) (expect 61 (give c)) (give e)) (drop at s) ≡ good c (drop (at + 2) s)
-  long-one x c e z b h d i =
-      expect-yes x (pick (is 61) (expect 61 (give c)) (give e)) s at b h z
-      ∙ (pick_is true (is 61) (expect 61 (give c)) (give e) (drop (at + 1) s) (ap (is 61) (head_at s (at + 1)) ∙ d)
-      ∙ (expect-yes 61 (give c) s (at + 1) d i refl ∙ ap (λ (n : ℕ). good c (drop n s)) two))
-
-  short-one : (x : ℕ) (c e : Compare) → eqb x x ≡ true → is_at s at x ≡ true → at < length s → is_at s (at + 1) 61 ≡ false
-      → expect x (pick (is 61) (expect 61 (give c)) (give e)) (drop at s) ≡ good e (drop (at + 1) s)
-  short-one x c e z b h d =
-      expect-yes x (pick (is 61) (expect 61 (give c)) (give e)) s at b h z ∙ pick_is false (is 61) (expect 61 (give c)) (give e) (drop (at + 1) s) (not-here s (at + 1) 61 d)
-
-  abbrev Says : Sign → Type 0
-  Says r = r ≡ sign_of (length s) (read_sign (drop at s))
-
-  module _ (b : is_at s at 61 ≡ true) (h : at < length s) where
-    pub sign-equal : is_at s (at + 1) 61 ≡ true → at + 1 < length s → Says (Is 128 (at + 2))
-    unfolding code_of
-    sign-equal d i = gives-is equal (at + 2) (omega arith) (step-a b ∙ both_bytes 61 equal refl b h d i)
-
-    pub sign-equal-no : is_at s (at + 1) 61 ≡ false → Says (Not (at + 1))
-    sign-equal-no d = gives-not (at + 1) (omega arith) (step-a b ∙ one_byte 61 equal refl b h d)
-
-  module _ (n : is_at s at 61 ≡ false) where
-    module _ (b : is_at s at 33 ≡ true) (h : at < length s) where
-      pub sign-unequal : is_at s (at + 1) 61 ≡ true → at + 1 < length s → Says (Is 129 (at + 2))
-      unfolding code_of
-      sign-unequal d i = gives-is unequal (at + 2) (omega arith) (step-b n b ∙ both_bytes 33 unequal refl b h d i)
-
-      pub sign-unequal-no : is_at s (at + 1) 61 ≡ false → Says (Not (at + 1))
-      sign-unequal-no d = gives-not (at + 1) (omega arith) (step-b n b ∙ one_byte 33 unequal refl b h d)
-
-    module _ (m : is_at s at 33 ≡ false) where
-      module _ (b : is_at s at 60 ≡ true) (h : at < length s) where
-        pub sign-most : is_at s (at + 1) 61 ≡ true → at + 1 < length s → Says (Is 131 (at + 2))
-        unfolding code_of
-        sign-most d i = gives-is at_most (at + 2) (omega arith) (step-c n m b ∙ long-one 60 at_most below refl b h d i)
-
-        pub sign_below : is_at s (at + 1) 61 ≡ false → Says (Is 130 (at + 1))
-        unfolding code_of
-        sign_below d = gives-is below (at + 1) (omega arith) (step-c n m b ∙ short-one 60 at_most below refl b h d)
-
-      module _ (k : is_at s at 60 ≡ false) where
-        pub sign-none : is_at s at 62 ≡ false → Says (Not at)
-        sign-none b = gives-not at low (step-d n m k ∙ expect-no 62 (pick (is 61) (expect 61 (give at_least)) (give above)) (drop at s) (not-here s at 62 b))
-
-        module _ (b : is_at s at 62 ≡ true) (h : at < length s) where
-          pub sign-least : is_at s (at + 1) 61 ≡ true → at + 1 < length s → Says (Is 133 (at + 2))
-          unfolding code_of
-          sign-least d i = gives-is at_least (at + 2) (omega arith) (step-d n m k ∙ long-one 62 at_least above refl b h d i)
-
-          pub sign_above : is_at s (at + 1) 61 ≡ false → Says (Is 132 (at + 1))
-          unfolding code_of
-          sign_above d = gives-is above (at + 1) (omega arith) (step-d n m k ∙ short-one 62 at_least above refl b h d)
+  pub no_sign : (l : List ℕ) → length l + at ≡ n → (First l ≡ 61 → ⊥) → (First l ≡ 33 → ⊥) → (First l ≡ 60 → ⊥) → (First l ≡ 62 → ⊥) → Gives n l (Err (wrong at))
+  unfolding read_sign
+  no_sign [] h a b c d = ap (λ (k : ℕ). Err (wrong k)) (omega arith)
+  no_sign (x ∷ l) h a b c d = rw (ne_eqb x 61 a, ne_eqb x 33 b, ne_eqb x 60 c, ne_eqb x 62 d) (ap (λ (k : ℕ). Err (wrong k)) (omega arith))

@@ -16,7 +16,7 @@ pub both_is : (a b : Bool) → a ≡ true → b ≡ true → (a && b) ≡ true
 both_is a b e f = ap (λ (x : Bool). x && b) e ∙ f
 
 pub clash : false ≡ true → ⊥
-clash e = let z : ◌≡◌ {A = ℕ} 0 1 = cc in omega arith
+clash e = cc
 
 -- ---- letters and digits
 

@@ -1,5 +1,5 @@
 -- Places of a text and what its readers give there.
-use mathlib.Core.Path.{◌≡◌, refl, ap, ◌∙◌}
+use mathlib.Core.Path.{◌≡◌, refl, sym, ap, ◌∙◌}
 use mathlib.Core.Bool.{Bool, true, false}
 use mathlib.Core.List.{List, [], ◌∷◌}
 use Prim.Native.Nat.{ℕ, suc, ◌+◌, ◌-◌, ◌≤◌, ◌<◌}
@@ -10,8 +10,10 @@ use lib.ListN.{length, drop, get_or, length-drop}
 use lib.Seq.{drop-cons, get_or-drop}
 use borrow.Author.Tests.{eqb-true}
 use Rattle.condition.specs.Token.{Token}
-use Rattle.wording.specs.declared.conditions.Walked.{Walked}
-use Rattle.wording.specs.declared.conditions.Walked.TheVariants.{Bad}
+use Rattle.std.specs.Prelude.{Result, Ok, Err}
+use Rattle.wording.specs.declared.walk.Place.{Place}
+use Rattle.wording.specs.declared.walk.Wrong.{Wrong}
+use Rattle.wording.specs.declared.operators.Operator.{Operator}
 use Rattle.wording.specs.Inner.Walk.{Outcome, is_at}
 use Rattle.wording.specs.Reader.{Res, expect, bad, onward, choose, good, head0, is, out, pick}
 use Rattle.wording.specs.declared.tallies.Tally.{Tally}
@@ -45,8 +47,18 @@ pub back : (s : List ℕ) (p : ℕ) → p ≤ length s → length s - length (dr
 back s p h = omega (arith, length-drop p s)
 
 -- a refusal stays one
-pub bad-on : {A B : Type 0} (ta : A → List Token) (tb : B → List Token) (s : List ℕ) (w v : Tally) (o y : List ℕ) (k : A → List ℕ → Res B) (x : Res A) (r : Walked) (q : List ℕ) (m : ℕ)
-    → r ≡ Bad m → Outcome ta s w o x r q → Outcome tb s v y (onward x k) r q
-bad-on ta tb s w v o y k (good t l) r q m e g = let a = g.0 in let z : ◌≡◌ {A = ℕ} 0 1 = cc in absurd (omega arith)
-bad-on ta tb s w v o y k (bad l) r q m e g = (g.0, tt)
+pub bad-on : {A B : Type 0} (ta : A → List Token) (tb : B → List Token) (s : List ℕ) (w v : Tally) (o y : List ℕ) (k : A → List ℕ → Res B) (x : Res A) (r : Result Place Wrong) (q : List ℕ) (m : Wrong)
+    → r ≡ Err m → Outcome ta s w o x r q → Outcome tb s v y (onward x k) (Err m) q
+bad-on ta tb s w v o y k (good t l) r q m e g = let a = g.0 in cc
+bad-on ta tb s w v o y k (bad l) r q m e g = (sym e ∙ g.0, tt)
 bad-on ta tb s w v o y k out r q m e g = g
+
+-- an answer has one place, one sign or one error
+pub same-error : {A : Type 0} (r : Result A Wrong) (x y : Wrong) → r ≡ Err x → r ≡ Err y → x ≡ y
+same-error r x y a b = cc
+
+pub same-place : (r : Result Place Wrong) (x y : Place) → r ≡ Ok x → r ≡ Ok y → x ≡ y
+same-place r x y a b = cc
+
+pub same-sign : (r : Result (Operator × ℕ) Wrong) (x y : Operator × ℕ) → r ≡ Ok x → r ≡ Ok y → x ≡ y
+same-sign r x y a b = cc

@@ -28,19 +28,19 @@ never f c t y v e h g o = by (full f condition 12 c [] v (alnum-zero, refl, refl
     by (short x) = o (sym h ∙ (ap (read f condition 12) (sym whole) ∙ x))
 
 bad-good : (l : List ℕ) (c : Condition) (r : List ℕ) → bad l ≡ good c r → ⊥
-bad-good l c r e = let z : ◌≡◌ {A = ℕ} 0 1 = cc in omega arith
+bad-good l c r e = cc
 
 bad-out : (l : List ℕ) → ◌≡◌ {A = Res Condition} (bad l) out → ⊥
-bad-out l e = let z : ◌≡◌ {A = ℕ} 0 1 = cc in omega arith
+bad-out l e = cc
 
 good-out : (c : Condition) (l : List ℕ) → good c l ≡ out → ⊥
-good-out c l e = let z : ◌≡◌ {A = ℕ} 0 1 = cc in omega arith
+good-out c l e = cc
 
 good_more : (c e : Condition) (b : ℕ) (l : List ℕ) → good c (b ∷ l) ≡ good e [] → ⊥
-good_more c e b l h = let z : ◌≡◌ {A = ℕ} 0 1 = cc in omega arith
+good_more c e b l h = cc
 
 cons-nil : (b : ℕ) (r : List ℕ) → (b ∷ r) ≡ [] → ⊥
-cons-nil b r e = let z : ◌≡◌ {A = ℕ} 0 1 = cc in omega arith
+cons-nil b r e = cc
 
 -- one byte more
 take_next : (p : List ℕ) (b : ℕ) (l : List ℕ) → take (suc (length p)) (p ++ (b ∷ l)) ≡ p ++ (b ∷ [])

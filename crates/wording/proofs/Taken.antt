@@ -1,27 +1,27 @@
 -- An operand taken: what was found in the text, and its token laid. One law for each thing found.
-use Prim.Native.Nat.{ℕ, ◌+◌, ◌-◌, ◌*◌, ◌≤◌, ◌<◌}
+use Prim.Native.Nat.{ℕ, ◌+◌, ◌-◌, ◌≤◌, ◌<◌}
 use mathlib.Core.Path.{◌≡◌, refl, sym, ap, subst, ◌∙◌}
-use mathlib.Core.Bool.{Bool}
+use mathlib.Core.Bool.{Bool, true, false}
 use mathlib.Core.List.{List, [], ◌∷◌}
 use native.Mathlib.Omega.{arith}
 use lib.ListN.{length, length-append, length-drop, take, drop}
 use lib.Seq.{drop-drop, drop_at, take_at}
-use Rattle.condition.specs.Token.{number, name as named, push}
+use Rattle.condition.specs.Token.{number, name as named, Token, push}
 use Rattle.wording.specs.declared.tallies.Tally.{Tally}
-use Rattle.wording.specs.declared.operands.Found.{Found}
-use Rattle.wording.specs.declared.operands.Found.TheVariants.{Name, Number, Wrong}
-use Rattle.wording.specs.declared.conditions.Walked.TheVariants.{At, Bad}
+use Rattle.std.specs.Prelude.{Result, Ok, Err}
+use Rattle.wording.specs.declared.walk.Wrong.{Wrong}
+use Rattle.wording.specs.declared.operands.Operand.{Operand}
+use Rattle.wording.specs.declared.operands.Operand.TheVariants.{Name, Number}
 use Rattle.wording.specs.Grammar.{val, limit, Side, name, integer, text_s, ValidS}
 use Rattle.wording.specs.Reader.{Res, good, bad, out, read_operand}
-use Rattle.wording.specs.Stored.{wide, number_of, word_for, operand_of, token_bytes}
+use Rattle.wording.specs.Stored.{wide, signed_of, word_for, operand_of}
 use Rattle.wording.specs.Inner.Tokens.{tokens_s}
-use Rattle.wording.specs.Inner.Walk.{note_b, put_b, takes, note_all, put_all, Outcome, OperandAt}
+use Rattle.wording.specs.Inner.Walk.{came, note_all, put_all, Emitted, Joined, Outcome, OperandAt}
 use Rattle.wording.specs.Inner.Leaf.{found_of}
 use Rattle.wording.proofs.Keeps.{Read, OkOf}
 use Rattle.wording.proofs.Parts.{ok-operand}
 use Rattle.wording.proofs.Ending.{Settled, operand-settled}
-use Rattle.wording.proofs.Places.{back}
-use Rattle.wording.proofs.Longs.{number-long, name-long}
+use Rattle.wording.proofs.Places.{back, same-error}
 
 -- what a reader leaves is the text from some place on
 pub suffix-of : {A : Type 0} (spell : A → List ℕ) (Valid : A → Type 0) (p : List ℕ → Res A) (s : List ℕ) (at : ℕ) (t : A) (l : List ℕ) → at ≤ length s
@@ -70,8 +70,8 @@ in-range neg b n h = h.2
 
 -- ---- back from what was found
 
-module _ (s : List ℕ) (at : ℕ) (r : Found) (h : at ≤ length s) (f : r ≡ found_of (length s) (read_operand (drop at s))) where
-  pub took-name : (end : ℕ) → r ≡ Name end → TookName s at end
+module _ (s : List ℕ) (at : ℕ) (r : Result Operand Wrong) (h : at ≤ length s) (f : r ≡ found_of (length s) (read_operand (drop at s))) where
+  pub took-name : (end : ℕ) → r ≡ Ok (Name end) → TookName s at end
   took-name end m = by (read_operand (drop at s)) refl f
     where
       by : (x : Res Side) → read_operand (drop at s) ≡ x → r ≡ found_of (length s) x → TookName s at end
@@ -88,15 +88,15 @@ module _ (s : List ℕ) (at : ℕ) (r : Found) (h : at ≤ length s) (f : r ≡ 
             low = t.1;
             top = omega arith;
           }
-      by (good (integer neg b n) l) e a = let v : ◌≡◌ {A = ℕ} 0 1 = cc in absurd (omega arith)
-      by (bad l) e a = let v : ◌≡◌ {A = ℕ} 0 1 = cc in absurd (omega arith)
-      by out e a = let v : ◌≡◌ {A = ℕ} 0 1 = cc in absurd (omega arith)
+      by (good (integer neg b n) l) e a = cc
+      by (bad l) e a = cc
+      by out e a = cc
 
-  pub took_number : (neg : Bool) (v end : ℕ) → r ≡ Number neg v end → TookNumber s at neg v end
+  pub took_number : (neg : Bool) (v end : ℕ) → r ≡ Ok (Number neg v end) → TookNumber s at neg v end
   took_number neg v end m = by (read_operand (drop at s)) refl f
     where
       by : (x : Res Side) → read_operand (drop at s) ≡ x → r ≡ found_of (length s) x → TookNumber s at neg v end
-      by (good (name b n) l) e a = let z : ◌≡◌ {A = ℕ} 0 1 = cc in absurd (omega arith)
+      by (good (name b n) l) e a = cc
       by (good (integer g b n) l) e a =
           let x : end ≡ length s - length l = cc in
           let y : g ≡ neg = cc in
@@ -111,54 +111,49 @@ module _ (s : List ℕ) (at : ℕ) (r : Found) (h : at ≤ length s) (f : r ≡ 
             fits = subst (λ (q : Bool). v ≤ limit q) y (subst (λ (q : ℕ). q ≤ limit g) (sym z) (in-range g b n k.valid));
             top = omega arith;
           }
-      by (bad l) e a = let z : ◌≡◌ {A = ℕ} 0 1 = cc in absurd (omega arith)
-      by out e a = let z : ◌≡◌ {A = ℕ} 0 1 = cc in absurd (omega arith)
+      by (bad l) e a = cc
+      by out e a = cc
 
-  pub operand-wrong : (p : ℕ) → r ≡ Wrong p → (w : Tally) (o q : List ℕ) → OperandAt s at w o (Bad p) q
+  pub operand-wrong : (p : Wrong) → r ≡ Err p → (w : Tally) (o q : List ℕ) → OperandAt s at w o (Err p) q
   operand-wrong p m w o q = record { is = by (read_operand (drop at s)) f (operand-settled (drop at s)) }
     where
-      by : (x : Res Side) → r ≡ found_of (length s) x → Settled x → Outcome tokens_s s w o x (Bad p) q
-      by (good (name b n) l) a z = let v : ◌≡◌ {A = ℕ} 0 1 = cc in absurd (omega arith)
-      by (good (integer neg b n) l) a z = let v : ◌≡◌ {A = ℕ} 0 1 = cc in absurd (omega arith)
-      by (bad l) a z = let v : p ≡ length s - length l = cc in (ap Bad v, tt)
+      by : (x : Res Side) → r ≡ found_of (length s) x → Settled x → Outcome tokens_s s w o x (Err p) q
+      by (good (name b n) l) a z = cc
+      by (good (integer neg b n) l) a z = cc
+      by (bad l) a z = (ap Err (same-error r _ _ m a), tt)
       by out a z = absurd z
 
 -- ---- its token laid
 
-name-laid : (b : ℕ) (n t : List ℕ) (w w1 : Tally) (o o1 : List ℕ) → t ≡ b ∷ n
-    → (w1 ≡ note_b (5 + 2 * length t) 0 w) × (o1 ≡ put_b (token_bytes (push (named (wide t)))) w o)
-    → (w1 ≡ note_all (tokens_s (name b n)) w) × (o1 ≡ put_all (tokens_s (name b n)) w o)
-unfolding note_all put_all takes operand_of
-name-laid b n t w w1 o o1 e z = (
-  z.0 ∙ ap (λ (k : ℕ). note_b k 0 w) (sym (name-long t)) ∙ ap (λ (l : List ℕ). note_b (length (token_bytes (push (named (wide l))))) 0 w) e,
-  z.1 ∙ ap (λ (l : List ℕ). put_b (token_bytes (push (named (wide l)))) w o) e,
-)
-
-number-laid : (neg : Bool) (v b : ℕ) (n : List ℕ) (w w1 : Tally) (o o1 : List ℕ) → v ≡ val (b - 48) n
-    → (w1 ≡ note_b 11 0 w) × (o1 ≡ put_b (token_bytes (push (number (word_for (number_of neg v))))) w o)
-    → (w1 ≡ note_all (tokens_s (integer neg b n)) w) × (o1 ≡ put_all (tokens_s (integer neg b n)) w o)
-unfolding note_all put_all takes operand_of
-number-laid neg v b n w w1 o o1 e z = (
-  z.0 ∙ ap (λ (k : ℕ). note_b k 0 w) (sym (number-long (word_for (number_of neg (val (b - 48) n))))),
-  z.1 ∙ ap (λ (y : ℕ). put_b (token_bytes (push (number (word_for (number_of neg y))))) w o) e,
-)
-
 taken : (s : List ℕ) (at end : ℕ) (t : Side) (w w1 : Tally) (o o1 : List ℕ) → end ≤ length s → read_operand (drop at s) ≡ good t (drop end s)
-    → (w1 ≡ note_all (tokens_s t) w) × (o1 ≡ put_all (tokens_s t) w o) → OperandAt s at w o (At end w1) o1
+    → Emitted (push (operand_of t)) w o w1 o1 → OperandAt s at w o (came end w1) o1
+unfolding note_all put_all
 taken s at end t w w1 o o1 h e z =
     record {
-      is = subst (λ (x : Res Side). Outcome tokens_s s w o x (At end w1) o1) (sym e)
-          (ap (λ (k : ℕ). At k w1) (sym (back s end h)) ∙ ap (At (length s - length (drop end s))) z.0, z.1);
+      is = subst (λ (x : Res Side). Outcome tokens_s s w o x (came end w1) o1) (sym e)
+          (ap (λ (k : ℕ). came k w1) (sym (back s end h)) ∙ ap (came (length s - length (drop end s))) z.tally, z.bytes);
     }
 
 pub operand-name : (s : List ℕ) (at end : ℕ) (w w1 : Tally) (o o1 : List ℕ) → TookName s at end
-    → (w1 ≡ note_b (5 + 2 * length (take (end - at) (drop at s))) 0 w) × (o1 ≡ put_b (token_bytes (push (named (wide (take (end - at) (drop at s)))))) w o)
-    → OperandAt s at w o (At end w1) o1
+    → Emitted (push (named (wide (take (end - at) (drop at s))))) w o w1 o1 → OperandAt s at w o (came end w1) o1
+unfolding operand_of
 operand-name s at end w w1 o o1 k z =
-    taken s at end (name k.first k.rest) w w1 o o1 k.top k.reads (name-laid k.first k.rest (take (end - at) (drop at s)) w w1 o o1 k.is z)
+    taken s at end (name k.first k.rest) w w1 o o1 k.top k.reads (subst (λ (l : List ℕ). Emitted (push (named (wide l))) w o w1 o1) k.is z)
 
 pub operand-number : (s : List ℕ) (at : ℕ) (neg : Bool) (v end : ℕ) (w w1 : Tally) (o o1 : List ℕ) → TookNumber s at neg v end
-    → (w1 ≡ note_b 11 0 w) × (o1 ≡ put_b (token_bytes (push (number (word_for (number_of neg v))))) w o)
-    → OperandAt s at w o (At end w1) o1
+    → Emitted (push (number (word_for (signed_of neg v)))) w o w1 o1 → OperandAt s at w o (came end w1) o1
+unfolding operand_of
 operand-number s at neg v end w w1 o o1 k z =
-    taken s at end (integer neg k.first k.rest) w w1 o o1 k.top k.reads (number-laid neg v k.first k.rest w w1 o o1 k.is z)
+    taken s at end (integer neg k.first k.rest) w w1 o o1 k.top k.reads (subst (λ (y : ℕ). Emitted (push (number (word_for (signed_of neg y)))) w o w1 o1) k.is z)
+
+-- ---- the operator of a row
+
+pub join-yes : (j : Bool) (t : Token) (w : Tally) (o : List ℕ) (r : Tally) (q : List ℕ) → j ≡ true → Emitted t w o r q → Joined j t w o r q
+unfolding note_all put_all
+join-yes true t w o r q e z = record { tally = z.tally; bytes = z.bytes }
+join-yes false t w o r q e z = cc
+
+pub join-no : (j : Bool) (t : Token) (w : Tally) (o : List ℕ) → j ≡ false → Joined j t w o w o
+unfolding note_all put_all
+join-no true t w o e = cc
+join-no false t w o e = record { tally = refl; bytes = refl }

@@ -16,18 +16,20 @@ use Rattle.condition.specs.Token.{Token, push, number}
 use Rattle.condition.specs.Kind.{accepted_of, stored_end, stored_alone}
 use Rattle.condition.specs.Table.{Attribute, attributes_of, table_ok}
 use Rattle.condition.specs.Meaning.{and_of, or_of, not_of, evaluate_of}
-use Rattle.condition.specs.declared.Evaluated.TheVariants.{Done as Said}
-use Rattle.wording.specs.declared.Translated.{Translated}
-use Rattle.wording.specs.declared.Translated.TheVariants.{Done, Refused}
+use Rattle.std.specs.Prelude.{Result, Ok}
+use Rattle.refusal.specs.declared.Refusal.{Refusal}
+use Rattle.refusal.specs.declared.Refusal.TheVariants.{Text, Large, Room}
+use Rattle.wording.specs.declared.Stored.{Stored}
+use Rattle.wording.specs.declared.TextFault.{TextFault}
 use Rattle.wording.specs.Grammar.{Condition, last, or, only, and, not, paren, ascii, text_c, ValidC, InGrammar, Goes, Stops}
 use Rattle.wording.specs.Reader.{Reading, accepted, refused, reading}
 use Rattle.wording.specs.Stored.{operand_of, tokens_of, bytes_all, stored_of}
 use Rattle.wording.specs.Meaning.{means_c}
-use Rattle.wording.specs.Translation.{holdable, storing, answer_by, translation_of, stored_by, laid_on, out_after}
+use Rattle.wording.specs.Translation.{done_with, refused_at, holdable, storing, answer_by, translation_of, stored_by, laid_on, out_after}
 use Rattle.wording.proofs.Reading.{sound, complete, offset, refused-there}
 use Rattle.wording.proofs.Checked.{checked, alone, no-padding, stored-means}
 use Rattle.wording.proofs.Order.{sides_c, pushed, text-order, signs-and-bases}
-use Rattle.wording.proofs.Decides.{done-by}
+use Rattle.wording.proofs.Decides.{done-by, same-why, same-at}
 
 -- ---- (a) one reading: two trees of one text are the same (`one-reading`, in Reading), and the parser finds it exactly where there is one
 
@@ -37,21 +39,21 @@ finds s c = (sound s c, λ h. ap reading h.0 ∙ complete c h.1)
 -- ---- (b) the offset of 16
 
 -- in a text of at most 512 bytes 16 is told of k exactly where it leaves the grammar there
-pub sixteen : (s : List ℕ) (room k : ℕ) → length s ≤ 512 → (translation_of s room ≡ Refused 16 k) ↔ Stops s k
+pub sixteen : (s : List ℕ) (room k : ℕ) → length s ≤ 512 → (translation_of s room ≡ refused_at Text k) ↔ Stops s k
 unfolding translation_of need answer_by storing
 sixteen s room k h = (λ e. to (reading s) refl (rw (le-leb (length s) 512 h) at e), λ g. rw (le-leb (length s) 512 h, refused-there s k g))
   where
-    to : (x : Reading) → reading s ≡ x → answer_by room x ≡ Refused 16 k → Stops s k
-    to (refused m) r e = offset s k (r ∙ ap refused (let v : m ≡ k = cc in v))
+    to : (x : Reading) → reading s ≡ x → answer_by room x ≡ refused_at Text k → Stops s k
+    to (refused m) r e = offset s k (r ∙ ap refused (same-at Text Text m k e))
     to (accepted c) r e = absurd (by (holdable c) (leb (length (stored_of c)) room) e)
       where
-        by : (x y : Bool) → need x (Refused 17 0) (need y (Refused 8 0) (Done (length (stored_of c)) (length (tokens_of c)))) ≡ Refused 16 k → ⊥
-        by false y e = let v : ◌≡◌ {A = ℕ} 16 17 = cc in omega arith
-        by true false e = let v : ◌≡◌ {A = ℕ} 16 8 = cc in omega arith
-        by true true e = let v : ◌≡◌ {A = ℕ} 0 1 = cc in omega arith
+        by : (x y : Bool) → need x (refused_at Large 0) (need y (refused_at Room 0) (done_with (length (stored_of c)) (length (tokens_of c)))) ≡ refused_at Text k → ⊥
+        by false y e = let v = same-why Large Text 0 k e in cc
+        by true false e = let v = same-why Room Text 0 k e in cc
+        by true true e = cc
 
 -- a longer one is refused at 512 before any byte is looked at
-pub sixteen-long : (s : List ℕ) (room : ℕ) → 512 < length s → translation_of s room ≡ Refused 16 512
+pub sixteen-long : (s : List ℕ) (room : ℕ) → 512 < length s → translation_of s room ≡ refused_at Text 512
 unfolding translation_of need
 sixteen-long s room h = rw (lt-leb (length s) 512 h)
 
@@ -84,7 +86,7 @@ pub record Translates (s o : List ℕ) (n k : ℕ) : Type 0 where
   pub accepts : accepted_of (take n (out_after s o)) ≡ some (tokens_of tree)
   pub ends : stored_end (take n (out_after s o)) ≡ n
   -- under every table that is made so it evaluates to what the text means
-  pub means : (table : List ℕ) → table_ok table ≡ true → evaluate_of (take n (out_after s o)) table ≡ Said (means_c (attributes_of table) tree)
+  pub means : (table : List ℕ) → table_ok table ≡ true → evaluate_of (take n (out_after s o)) table ≡ Ok (means_c (attributes_of table) tree)
   -- its operands stand in the order of the text
   pub in_order : pushed (tokens_of tree) ≡ map operand_of (sides_c tree)
   -- each number has sign byte 3 and base byte 2
@@ -94,11 +96,11 @@ pub record Translates (s o : List ℕ) (n k : ℕ) : Type 0 where
       × (get_or (drop (4 + length (bytes_all p)) (take n (out_after s o))) 10 0 ≡ 2)
 
 -- done leaves the stored form on the front
-done-leaves : (s o : List ℕ) (n k : ℕ) (c : Condition) → translation_of s (length o) ≡ Done n k → reading s ≡ accepted c → out_after s o ≡ front (stored_of c) o
+done-leaves : (s o : List ℕ) (n k : ℕ) (c : Condition) → translation_of s (length o) ≡ done_with n k → reading s ≡ accepted c → out_after s o ≡ front (stored_of c) o
 unfolding out_after laid_on stored_by
 done-leaves s o n k c e r = rw (e, r)
 
-pub means-the-same : (s o : List ℕ) (n k : ℕ) → translation_of s (length o) ≡ Done n k → Translates s o n k
+pub means-the-same : (s o : List ℕ) (n k : ℕ) → translation_of s (length o) ≡ done_with n k → Translates s o n k
 means-the-same s o n k e =
     let d = done-by s (length o) n k (sym e) in
     let c = d.tree in
@@ -130,32 +132,32 @@ means-the-same s o n k e =
 
 -- the answer to a text of the grammar
 stored_answer : (s : List ℕ) (room : ℕ) (c : Condition) → length s ≤ 512 → reading s ≡ accepted c
-    → translation_of s room ≡ need (holdable c) (Refused 17 0) (need (leb (length (stored_of c)) room) (Refused 8 0) (Done (length (stored_of c)) (length (tokens_of c))))
+    → translation_of s room ≡ need (holdable c) (refused_at Large 0) (need (leb (length (stored_of c)) room) (refused_at Room 0) (done_with (length (stored_of c)) (length (tokens_of c))))
 unfolding translation_of answer_by storing need
 stored_answer s room c h r = rw (le-leb (length s) 512 h, r)
 
 -- 17 exactly where there are over 64 tokens or the stack stands deeper than 16; that is exactly where the check of RULES 11.4 refuses the stored form; then 8, exactly
 -- where it is longer than the room
 pub record Limits (s : List ℕ) (room : ℕ) (c : Condition) : Type 0 where
-  pub seventeen : (translation_of s room ≡ Refused 17 0) ↔ (holdable c ≡ false)
+  pub seventeen : (translation_of s room ≡ refused_at Large 0) ↔ (holdable c ≡ false)
   pub by-five : stored_alone (stored_of c) ≡ holdable c
-  pub eight : holdable c ≡ true → (translation_of s room ≡ Refused 8 0) ↔ (room < length (stored_of c))
+  pub eight : holdable c ≡ true → (translation_of s room ≡ refused_at Room 0) ↔ (room < length (stored_of c))
 
 -- by the two tests
-abbrev After : Bool → Bool → ℕ → ℕ → Translated
-After x y n k = need x (Refused 17 0) (need y (Refused 8 0) (Done n k))
+abbrev After : Bool → Bool → ℕ → ℕ → Result Stored TextFault
+After x y n k = need x (refused_at Large 0) (need y (refused_at Room 0) (done_with n k))
 
-decide-17 : (x y : Bool) (n k : ℕ) → (After x y n k ≡ Refused 17 0) ↔ (x ≡ false)
+decide-17 : (x y : Bool) (n k : ℕ) → (After x y n k ≡ refused_at Large 0) ↔ (x ≡ false)
 unfolding need
 decide-17 false y n k = (λ e. refl, λ e. refl)
-decide-17 true false n k = (λ e. let v : ◌≡◌ {A = ℕ} 8 17 = cc in absurd (omega arith), λ e. absurd (false≢true (sym e)))
-decide-17 true true n k = (λ e. let v : ◌≡◌ {A = ℕ} 0 1 = cc in absurd (omega arith), λ e. absurd (false≢true (sym e)))
+decide-17 true false n k = (λ e. let v = same-why Room Large 0 0 e in cc, λ e. absurd (false≢true (sym e)))
+decide-17 true true n k = (λ e. cc, λ e. absurd (false≢true (sym e)))
 
-decide-8 : (x y : Bool) (n k : ℕ) → x ≡ true → (After x y n k ≡ Refused 8 0) ↔ (y ≡ false)
+decide-8 : (x y : Bool) (n k : ℕ) → x ≡ true → (After x y n k ≡ refused_at Room 0) ↔ (y ≡ false)
 unfolding need
 decide-8 false y n k h = absurd (false≢true h)
 decide-8 true false n k h = (λ e. refl, λ e. refl)
-decide-8 true true n k h = (λ e. let v : ◌≡◌ {A = ℕ} 0 1 = cc in absurd (omega arith), λ e. absurd (false≢true (sym e)))
+decide-8 true true n k h = (λ e. cc, λ e. absurd (false≢true (sym e)))
 
 pub limits : (s : List ℕ) (room : ℕ) (c : Condition) → length s ≤ 512 → reading s ≡ accepted c → Limits s room c
 limits s room c h r =
@@ -170,7 +172,7 @@ limits s room c h r =
     }
 
 -- a refusal writes nothing
-pub nothing_written : (s o : List ℕ) (k m : ℕ) → translation_of s (length o) ≡ Refused k m → out_after s o ≡ o
+pub nothing_written : (s o : List ℕ) (k : Refusal) (m : ℕ) → translation_of s (length o) ≡ refused_at k m → out_after s o ≡ o
 unfolding out_after laid_on
 nothing_written s o k m e = rw e
 

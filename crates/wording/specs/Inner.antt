@@ -2,3 +2,4 @@
 pub mod Tokens
 pub mod Walk
 pub mod Leaf
+pub mod Rows

@@ -13,12 +13,12 @@ wide [] = []
 wide (b ∷ n) = b ∷ 0 ∷ wide n
 
 -- the number that an integer's text names
-abbrev pub number_of : Bool → ℕ → ℤ
-number_of true v = neg_ℤ (pos v)
-number_of false v = pos v
+abbrev pub signed_of : Bool → ℕ → ℤ
+signed_of true v = neg_ℤ (pos v)
+signed_of false v = pos v
 
 abbrev pub integer_of : Bool → ℕ → List ℕ → ℤ
-integer_of neg b n = number_of neg (val (digit_of b) n)
+integer_of neg b n = signed_of neg (val (digit_of b) n)
 
 -- 64 bits, two's complement
 unfoldable pub word_for : ℤ → ℕ

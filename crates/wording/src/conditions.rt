@@ -1,150 +1,174 @@
 // Conditions, terms and factors: functions that call each other in a cycle, as the grammar does. One walk reads, counts and writes: a token that doesn't
 // fit into what is lent is counted and not written, so the same walk over an empty part of the buffer measures.
-ghost use Rattle.std.specs.Prelude.{◌≡◌, false, ◌≤◌, length};
+ghost use Rattle.std.specs.Prelude.{◌≡◌, false, ◌≤◌, ◌<◌, length};
 ghost use Rattle.wording.specs.Reader.{condition, term, factor};
-ghost use Rattle.wording.specs.Inner.Walk.{OperandAt, ComparedAt, ParsedAt, wrong_of};
+ghost use Rattle.wording.specs.Inner.Walk.{OperandAt, ComparedAt, ParsedAt};
+ghost use Rattle.wording.specs.Inner.Rows.{row_of, part_of, sign_in, operator_in};
 
 use crate::bytes::byte_is;
-use crate::operands::{Found, read_operand};
-use crate::signs::{Sign, read_sign};
-use crate::tallies::Tally;
+use crate::operands::{Operand, read_operand};
+use crate::operators::Operator;
+use crate::signs::read_sign;
 use crate::tokens::{emit_name, emit_number, emit_op, join};
+use crate::walk::{Place, Text, Wrong};
 
-// Where the walk has come, with its tally; or where the text goes wrong.
+// What is made of parts with a sign between them: a condition of terms, a term of factors.
 #[derive(Clone, Copy)]
-pub enum Walked {
-    At(usize, Tally),
-    Bad(usize),
+pub enum Row {
+    Condition,
+    Term,
 }
 
-// What joins the parts of a row, twice in the text, and the token of each.
-const AND_SIGN: u8 = b'&';
+impl Row {
+    // The byte that stands twice between two parts.
+    fn sign(self) -> u8
+        ensures value { result ≡ sign_in self }
+        ensures some { 0 < result }
+    {
+        match self {
+            Row::Condition => b'|',
+            Row::Term => b'&',
+        }
+    }
 
-const OR_SIGN: u8 = b'|';
-
-const AND: u8 = 0xA0;
-
-const OR: u8 = 0xA1;
-
-const NOT: u8 = 0xA2;
+    fn operator(self) -> Operator
+        ensures { result ≡ operator_in self }
+    {
+        match self {
+            Row::Condition => Operator::Or,
+            Row::Term => Operator::And,
+        }
+    }
+}
 
 // An operand, and its token.
-fn take_operand(s: &[u8], at: usize, w: Tally, out: &mut [u8]) -> Walked
-    requires { (at ≤ length s.now) × (length s.now ≤ 512) }
-    ensures { OperandAt s.now at w out.old result out.new }
+fn take_operand(s: &Text, from: Place, out: &mut [u8]) -> Result<Place, Wrong>
+    requires { from.at ≤ length s.now.bytes.now }
+    ensures { OperandAt s.now.bytes.now from.at from.tally out.old result out.new }
 {
-    let f = read_operand(s, at);
-    match f {
-        Found::Name(end) => Walked::At(end, emit_name(out, w, &s[at..end])),
-        Found::Number(neg, v, end) => Walked::At(end, emit_number(out, w, neg, v)),
-        Found::Wrong(p) => Walked::Bad(p),
+    match read_operand(s.bytes, from.at)? {
+        Operand::Name { end } => Ok(Place {
+            at: end,
+            tally: emit_name(out, from.tally, &s.bytes[from.at..end]),
+        }),
+        Operand::Number { neg, v, end } => Ok(Place {
+            at: end,
+            tally: emit_number(out, from.tally, neg, v),
+        }),
     }
 }
 
-// Where a comparison goes wrong, the walk does.
-fn wrong_at(k: Sign) -> Walked
-    ensures { result ≡ wrong_of k }
+// Two operands with a comparison between them, whose token stands behind theirs. Apart from a factor, so that one in parentheses takes less stack.
+#[inline(never)]
+fn read_comparison(s: &Text, from: Place, out: &mut [u8]) -> Result<Place, Wrong>
+    requires { from.at ≤ length s.now.bytes.now }
+    ensures { ComparedAt s.now.bytes.now from.at from.tally out.old result out.new }
 {
-    match k {
-        Sign::Is(_, p) => Walked::Bad(p),
-        Sign::Not(p) => Walked::Bad(p),
-    }
+    let left = take_operand(s, from, out)?;
+    let (comparison, at) = read_sign(s.bytes, left.at)?;
+    let right = take_operand(
+        s,
+        Place {
+            at,
+            tally: left.tally,
+        },
+        out,
+    )?;
+    Ok(Place {
+        at: right.at,
+        tally: emit_op(out, right.tally, comparison),
+    })
 }
 
-// Two operands with a comparison between them, whose token stands behind theirs.
-fn read_comparison(s: &[u8], at: usize, w: Tally, out: &mut [u8]) -> Walked
-    requires { (at ≤ length s.now) × (length s.now ≤ 512) }
-    ensures { ComparedAt s.now at w out.old result out.new }
-{
-    let t = take_operand(s, at, w, out);
-    let Walked::At(p, w1) = t else {
-        return t;
-    };
-    let k = read_sign(s, p);
-    let Sign::Is(code, p2) = k else {
-        return wrong_at(k);
-    };
-    let u = take_operand(s, p2, w1, out);
-    let Walked::At(p3, w2) = u else {
-        return u;
-    };
-    let w3 = emit_op(out, w2, code, 2);
-    Walked::At(p3, w3)
-}
-
-// Terms joined by `||`; `joined` where an or stands before the first one, which is written behind it then.
+// Terms joined by `||`. This and the next stay by name: document 01 has condition, term and factor functions that call each other.
 #[cycle(read_condition_read_factor_read_term)]
 pub(crate) fn read_condition(
-    s: &[u8],
-    at: usize,
+    s: &Text,
+    from: Place,
     depth: usize,
-    joined: bool,
-    w: Tally,
     out: &mut [u8],
-) -> Walked
-    requires { (at ≤ length s.now) × (length s.now ≤ 512) }
-    ensures { ParsedAt condition joined s.now at depth w out.old result out.new }
+) -> Result<Place, Wrong>
+    requires { from.at ≤ length s.now.bytes.now }
+    ensures { ParsedAt condition false s.now.bytes.now from.at depth from.tally out.old result out.new }
 {
-    let t = read_term(s, at, depth, false, w, out);
-    let Walked::At(p, w1) = t else {
-        return t;
-    };
-    let w2 = join(out, w1, joined, OR);
-    if !byte_is(s, p, OR_SIGN) {
-        return Walked::At(p, w2);
-    }
-    if !byte_is(s, p + 1, OR_SIGN) {
-        return Walked::Bad(p + 1);
-    }
-    read_condition(s, p + 2, depth, true, w2, out)
+    read_row(s, from, depth, Row::Condition, false, out)
 }
 
-// Factors joined by `&&`, likewise.
+// Factors joined by `&&`.
 #[cycle(read_condition_read_factor_read_term)]
-fn read_term(s: &[u8], at: usize, depth: usize, joined: bool, w: Tally, out: &mut [u8]) -> Walked
-    requires { (at ≤ length s.now) × (length s.now ≤ 512) }
-    ensures { ParsedAt term joined s.now at depth w out.old result out.new }
+fn read_term(s: &Text, from: Place, depth: usize, out: &mut [u8]) -> Result<Place, Wrong>
+    requires { from.at ≤ length s.now.bytes.now }
+    ensures { ParsedAt term false s.now.bytes.now from.at depth from.tally out.old result out.new }
 {
-    let t = read_factor(s, at, depth, w, out);
-    let Walked::At(p, w1) = t else {
-        return t;
-    };
-    let w2 = join(out, w1, joined, AND);
-    if !byte_is(s, p, AND_SIGN) {
-        return Walked::At(p, w2);
+    read_row(s, from, depth, Row::Term, false, out)
+}
+
+// The parts of a row; `joined` where its sign stands before the first one, behind which its operator is written then. Six
+// parameters are what the grammar's functions hand on; a struct of some of them would be taken apart here again, so it is no plainer.
+#[cycle(read_condition_read_factor_read_term)]
+fn read_row(
+    s: &Text,
+    from: Place,
+    depth: usize,
+    row: Row,
+    joined: bool,
+    out: &mut [u8],
+) -> Result<Place, Wrong>
+    requires { from.at ≤ length s.now.bytes.now }
+    ensures { ParsedAt (row_of row) joined s.now.bytes.now from.at depth from.tally out.old result out.new }
+{
+    let part = read_part(s, from, depth, row, out)?;
+    let at = part.at;
+    let tally = join(out, part.tally, joined, row.operator());
+    if !byte_is(s.bytes, at, row.sign()) {
+        return Ok(Place { at, tally });
     }
-    if !byte_is(s, p + 1, AND_SIGN) {
-        return Walked::Bad(p + 1);
+    if !byte_is(s.bytes, at + 1, row.sign()) {
+        return Err(Wrong { at: at + 1 });
     }
-    read_term(s, p + 2, depth, true, w2, out)
+    let next = Place { at: at + 2, tally };
+    read_row(s, next, depth, row, true, out)
+}
+
+#[cycle(read_condition_read_factor_read_term)]
+fn read_part(s: &Text, from: Place, depth: usize, row: Row, out: &mut [u8]) -> Result<Place, Wrong>
+    requires { from.at ≤ length s.now.bytes.now }
+    ensures { ParsedAt (part_of row) false s.now.bytes.now from.at depth from.tally out.old result out.new }
+{
+    match row {
+        Row::Condition => read_term(s, from, depth, out),
+        Row::Term => read_factor(s, from, depth, out),
+    }
 }
 
 // A factor in parentheses is again a whole condition; `depth` more of them may be opened.
 #[cycle(read_condition_read_factor_read_term)]
-fn read_factor(s: &[u8], at: usize, depth: usize, w: Tally, out: &mut [u8]) -> Walked
-    requires { (at ≤ length s.now) × (length s.now ≤ 512) }
-    ensures { ParsedAt factor false s.now at depth w out.old result out.new }
+fn read_factor(s: &Text, from: Place, depth: usize, out: &mut [u8]) -> Result<Place, Wrong>
+    requires { from.at ≤ length s.now.bytes.now }
+    ensures { ParsedAt factor false s.now.bytes.now from.at depth from.tally out.old result out.new }
 {
-    if byte_is(s, at, b'!') {
-        let t = read_factor(s, at + 1, depth, w, out);
-        let Walked::At(p, w1) = t else {
-            return t;
-        };
-        let w2 = emit_op(out, w1, NOT, 1);
-        return Walked::At(p, w2);
+    let Place { at, tally } = from;
+    if byte_is(s.bytes, at, b'!') {
+        let next = Place { at: at + 1, tally };
+        let inner = read_factor(s, next, depth, out)?;
+        return Ok(Place {
+            at: inner.at,
+            tally: emit_op(out, inner.tally, Operator::Not),
+        });
     }
-    if !byte_is(s, at, b'(') {
-        return read_comparison(s, at, w, out);
+    if !byte_is(s.bytes, at, b'(') {
+        return read_comparison(s, from, out);
     }
     if depth == 0 {
-        return Walked::Bad(at);
+        return Err(Wrong { at });
     }
-    let t = read_condition(s, at + 1, depth - 1, false, w, out);
-    let Walked::At(p, w1) = t else {
-        return t;
-    };
-    if byte_is(s, p, b')') {
-        return Walked::At(p + 1, w1);
+    let next = Place { at: at + 1, tally };
+    let inner = read_condition(s, next, depth - 1, out)?;
+    if !byte_is(s.bytes, inner.at, b')') {
+        return Err(Wrong { at: inner.at });
     }
-    Walked::Bad(p)
+    Ok(Place {
+        at: inner.at + 1,
+        tally: inner.tally,
+    })
 }

@@ -1,36 +1,25 @@
 // Names and numbers where they lie in a text.
-ghost use Rattle.std.specs.Prelude.{◌≡◌, ◌-◌, ◌≤◌, length, drop};
+ghost use Rattle.std.specs.Prelude.{◌≡◌, ◌-◌, ◌+◌, ◌≤◌, length, drop};
+ghost use Rattle.std.specs.List.{prefix_len};
+ghost use Rattle.std.specs.Char.{is_ascii_alphanumeric};
 ghost use Rattle.wording.specs.Grammar.{limit};
 ghost use Rattle.wording.specs.Reader.{read_digits, read_number, read_operand};
-ghost use Rattle.wording.specs.Inner.Leaf.{class_of, NameEnd, digits_found, found_of};
+ghost use Rattle.wording.specs.Inner.Leaf.{digits_found, found_of};
 
-use crate::bytes::{byte_is, class_at};
+use crate::walk::Wrong;
 
-// An operand found: a name and where it ends; a number, whether a minus stands before it, and where it ends; or where it goes wrong.
+// An operand found, and where it ends: a name; or a number, with whether a minus stands before it.
 #[derive(Clone, Copy)]
-pub enum Found {
-    Name(usize),
-    Number(bool, u64, usize),
-    Wrong(usize),
+pub enum Operand {
+    Name { end: usize },
+    Number { neg: bool, v: u64, end: usize },
 }
 
-// The end of the letters and digits from `at` on.
-fn name_end(s: &[u8], at: usize) -> usize
-    requires { at ≤ length s.now }
-    ensures { NameEnd s.now at result }
+// How many letters and digits a text begins with.
+fn name_length(s: &[u8]) -> usize
+    ensures { result ≡ prefix_len is_ascii_alphanumeric s.now }
 {
-    let mut end = at;
-    while class_at(s, end) != 0 {
-        end += 1;
-    }
-    end
-}
-
-fn digit_value(x: u8) -> u64
-    requires { class_of x ≡ 1 }
-    ensures { (result ≡ x - 48) × (result ≤ 9) }
-{
-    (x - b'0') as u64
+    s.iter().take_while(|b| b.is_ascii_alphanumeric()).count()
 }
 
 // The largest number of signed 64 bits: behind a minus, and without one.
@@ -38,51 +27,60 @@ fn limit_of(neg: bool) -> u64
     ensures { result ≡ limit neg }
 {
     if neg {
-        9223372036854775808
+        i64::MIN.unsigned_abs()
     } else {
-        9223372036854775807
+        i64::MAX as u64
     }
 }
 
 // The number that begins with `first` and goes on with the digits from `at` on; wrong at the digit that leaves the range.
-fn number_from(s: &[u8], at: usize, neg: bool, first: u64) -> Found
+fn number_from(s: &[u8], at: usize, neg: bool, first: u64) -> Result<Operand, Wrong>
     requires { at ≤ length s.now }
     ensures { result ≡ digits_found (length s.now) neg first (read_digits neg first (drop at s.now)) }
 {
     let most = limit_of(neg);
     let mut v = first;
-    let mut end = at;
-    while class_at(s, end) == 1 {
-        let d = digit_value(s[end]);
+    for (i, b) in s[at..].iter().enumerate() {
+        if !b.is_ascii_digit() {
+            return Ok(Operand::Number {
+                neg,
+                v,
+                end: at + i,
+            });
+        }
+        let d = u64::from(b - b'0');
         if v > (most - d) / 10 {
-            return Found::Wrong(end);
+            return Err(Wrong { at: at + i });
         }
         v = v * 10 + d;
-        end += 1;
     }
-    Found::Number(neg, v, end)
+    Ok(Operand::Number {
+        neg,
+        v,
+        end: s.len(),
+    })
 }
 
-fn read_number(s: &[u8], at: usize, neg: bool) -> Found
+fn read_number(s: &[u8], at: usize, neg: bool) -> Result<Operand, Wrong>
     requires { at ≤ length s.now }
     ensures { result ≡ found_of (length s.now) (read_number neg (drop at s.now)) }
 {
-    if class_at(s, at) != 1 {
-        return Found::Wrong(at);
+    match s.get(at) {
+        Some(b) if b.is_ascii_digit() => number_from(s, at + 1, neg, u64::from(b - b'0')),
+        _ => Err(Wrong { at }),
     }
-    number_from(s, at + 1, neg, digit_value(s[at]))
 }
 
 // A name, or a number with a minus or without.
-pub(crate) fn read_operand(s: &[u8], at: usize) -> Found
+pub(crate) fn read_operand(s: &[u8], at: usize) -> Result<Operand, Wrong>
     requires { at ≤ length s.now }
     ensures { result ≡ found_of (length s.now) (read_operand (drop at s.now)) }
 {
-    if class_at(s, at) == 2 {
-        return Found::Name(name_end(s, at + 1));
+    match s.get(at) {
+        Some(b) if b.is_ascii_alphabetic() => Ok(Operand::Name {
+            end: at + 1 + name_length(&s[at + 1..]),
+        }),
+        Some(b'-') => read_number(s, at + 1, true),
+        _ => read_number(s, at, false),
     }
-    if byte_is(s, at, b'-') {
-        return read_number(s, at + 1, true);
-    }
-    read_number(s, at, false)
 }

@@ -3,43 +3,22 @@ ghost use Rattle.std.specs.Prelude.{◌≡◌, ◌≤◌, length, drop};
 ghost use Rattle.wording.specs.Reader.{read_sign};
 ghost use Rattle.wording.specs.Inner.Leaf.{sign_of};
 
-use crate::bytes::byte_is;
+use crate::operators::Operator;
+use crate::walk::Wrong;
 
-// A comparison's code and where it ends, or where it goes wrong.
-#[derive(Clone, Copy)]
-pub enum Sign {
-    Is(u8, usize),
-    Not(usize),
-}
-
-// == != < <= > >=
-pub(crate) fn read_sign(s: &[u8], at: usize) -> Sign
+// A comparison, and where it ends: == != < <= > >=
+pub(crate) fn read_sign(s: &[u8], at: usize) -> Result<(Operator, usize), Wrong>
     requires { at ≤ length s.now }
     ensures { result ≡ sign_of (length s.now) (read_sign (drop at s.now)) }
 {
-    if byte_is(s, at, b'=') {
-        if byte_is(s, at + 1, b'=') {
-            return Sign::Is(0x80, at + 2);
-        }
-        return Sign::Not(at + 1);
+    match &s[at..] {
+        [b'=', b'=', ..] => Ok((Operator::Equal, at + 2)),
+        [b'!', b'=', ..] => Ok((Operator::Unequal, at + 2)),
+        [b'<', b'=', ..] => Ok((Operator::AtMost, at + 2)),
+        [b'>', b'=', ..] => Ok((Operator::AtLeast, at + 2)),
+        [b'<', ..] => Ok((Operator::Below, at + 1)),
+        [b'>', ..] => Ok((Operator::Above, at + 1)),
+        [b'=' | b'!', ..] => Err(Wrong { at: at + 1 }),
+        _ => Err(Wrong { at }),
     }
-    if byte_is(s, at, b'!') {
-        if byte_is(s, at + 1, b'=') {
-            return Sign::Is(0x81, at + 2);
-        }
-        return Sign::Not(at + 1);
-    }
-    if byte_is(s, at, b'<') {
-        if byte_is(s, at + 1, b'=') {
-            return Sign::Is(0x83, at + 2);
-        }
-        return Sign::Is(0x82, at + 1);
-    }
-    if !byte_is(s, at, b'>') {
-        return Sign::Not(at);
-    }
-    if byte_is(s, at + 1, b'=') {
-        return Sign::Is(0x85, at + 2);
-    }
-    Sign::Is(0x84, at + 1)
 }

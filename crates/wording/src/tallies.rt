@@ -1,6 +1,6 @@
 // What the walk counts.
-ghost use Rattle.std.specs.Prelude.{◌≡◌, ◌-◌, ◌<◌, max};
-ghost use Rattle.wording.specs.Inner.Walk.{up_by, note_b};
+ghost use Rattle.std.specs.Prelude.{◌≡◌};
+ghost use Rattle.wording.specs.Inner.Walk.{note_b};
 
 // Tokens and bytes so far, how many values stand on the stack, and the most that have.
 #[derive(Clone, Copy)]
@@ -11,36 +11,18 @@ pub struct Tally {
     pub highest: usize,
 }
 
-// Counts stop far above every limit, so none wraps.
-fn up(a: usize, k: usize) -> usize
-    requires { k < 10000 }
-    ensures { result ≡ up_by a k }
-{
-    if a < 100000 { a + k } else { a }
-}
-
-fn less(a: usize, b: usize) -> usize
-    ensures { result ≡ a - b }
-{
-    if a < b { 0 } else { a - b }
-}
-
-fn larger(a: usize, b: usize) -> usize
-    ensures { result ≡ max a b }
-{
-    if a < b { b } else { a }
-}
-
-// One token more, of k bytes, that takes `down` from the stack and lays one value there.
-pub(crate) fn note(w: Tally, k: usize, down: usize) -> Tally
-    requires { k < 10000 }
-    ensures { result ≡ note_b k down w }
-{
-    let height = up(less(w.height, down), 1);
-    Tally {
-        tokens: up(w.tokens, 1),
-        size: up(w.size, k),
-        height: height,
-        highest: larger(w.highest, height),
+impl Tally {
+    // One token more, of k bytes, that takes `down` from the stack and lays one value there. Counts stop far above every limit.
+    #[tactic(auto, unfolding(crate::specs::Inner::Walk::note_b, crate::specs::Inner::Walk::up_by))]
+    pub(crate) fn note(self, k: usize, down: usize) -> Tally
+        ensures { result ≡ note_b k down self }
+    {
+        let height = self.height.saturating_sub(down).saturating_add(1);
+        Tally {
+            tokens: self.tokens.saturating_add(1),
+            size: self.size.saturating_add(k),
+            height,
+            highest: self.highest.max(height),
+        }
     }
 }

@@ -1,8 +1,10 @@
 -- The three cases of records. Assumes nothing.
+use borrow.Author.Rules.{rules}
 use native.Mathlib.Omega.{arith}
 use Prim.Native.Nat.{◌≤◌}
 use lib.ListN.{length}
-use Rattle.axs.proofs.Courses.{over-onward, used-most, records-far, records-bad, records-on, records-onward}
+use Rattle.axs.specs.Inner.Buffered.{course_at}
+use Rattle.axs.proofs.Courses.{used-most, records-far, records-bad, records-on, records-room}
 use Rattle.axs.proofs.records_in.Goals as goal
 
 pub overflow_add-next : goal.overflow_add-next
@@ -12,17 +14,19 @@ overflow_add-next c =
     let u = used-most a.at a.held a.buffer.now a.room.now _ _ _ e.0 e.1.0 e.1.1 in
     omega arith
 
-pub returns-then-next-gt-MOST : goal.returns-then-next-gt-MOST
-returns-then-next-gt-MOST c =
+pub returns-then-next-gt-MOST-clause-room_after : goal.returns-then-next-gt-MOST-clause-room_after
+unfolding course_at
+returns-then-next-gt-MOST-clause-room_after c =
     let a = c.args in
-    let e = c.advance-run.ensures in
-    record { room_after = records-far a.at a.held a.buffer.now a.room.now _ _ _ e.used_value.0 e.used_value.1.0 e.used_value.1.1 _ (omega arith); onward = over-onward _ _ _ }
+    let e = c.advance-run.ensures.used_value in
+    records-far a.at a.held a.buffer.now a.room.now _ _ _ e.0 e.1.0 e.1.1 (omega arith)
 
-pub returns-then-run : goal.returns-then-run
-returns-then-run c =
+pub returns-then-run-clause-room_after : goal.returns-then-run-clause-room_after
+unfolding course_at
+returns-then-run-clause-room_after c =
     let a = c.args in
-    let e = c.advance-run.ensures in
-    record { room_after = records-bad a.at a.held a.buffer.now a.room.now _ _ _ e.used_value.0 e.used_value.1.0 e.used_value.1.1 _ (omega arith) c.if-run.true; onward = over-onward _ _ _ }
+    let e = c.advance-run.ensures.used_value in
+    records-bad a.at a.held a.buffer.now a.room.now _ _ _ e.0 e.1.0 e.1.1 (omega arith) c.if-run.true
 
 pub overflow_sub-result : goal.overflow_sub-result
 overflow_sub-result c =
@@ -31,14 +35,18 @@ overflow_sub-result c =
     let u = used-most a.at a.held a.buffer.now a.room.now _ _ _ e.0 e.1.0 e.1.1 in
     omega arith
 
-pub returns : goal.returns
-returns c =
+pub invariant_of-result-clause-room_for_more : goal.invariant_of-result-clause-room_for_more
+invariant_of-result-clause-room_for_more c =
+    let a = c.args in
+    let e = c.advance-run.ensures.used_value in
+    let l : a.held ≤ length a.buffer.now = omega arith in
+    records-room a.at a.held a.buffer.now a.room.now _ _ _ e.0 e.1.0 e.1.1 l (omega arith) c.if-run.false (search rules) (omega arith)
+
+pub returns-else-run-clause-room_after : goal.returns-else-run-clause-room_after
+unfolding course_at
+returns-else-run-clause-room_after c =
     let a = c.args in
     let e = c.advance-run.ensures in
-    let f = c.if-run.false in
+    let u = e.used_value in
     let l : a.held ≤ length a.buffer.now = omega arith in
-    record {
-      room_after = rw e.buffer_after (records-on a.at a.held a.buffer.now a.room.now _ _ _ e.used_value.0 e.used_value.1.0 e.used_value.1.1 l (omega arith) f);
-      onward = records-onward a.at a.held a.buffer.now a.room.now _ _ _ e.used_value.0 e.used_value.1.0 e.used_value.1.1 l (omega arith) f
-          (λ i. (c.slice_known-2-1.given i).fits) (omega arith);
-    }
+    rw e.buffer_after (records-on a.at a.held a.buffer.now a.room.now _ _ _ u.0 u.1.0 u.1.1 l (omega arith) c.if-run.false)

@@ -1,12 +1,11 @@
 -- What was read, and what is said of it. Assumes nothing.
-use borrow.Author.Rules.{rules}
 use Rattle.axs.proofs.Speeches.{answers, reached-listable}
 use Rattle.axs.proofs.run.Goals as goal
 
 pub text_of-requires : goal.text_of-requires
 text_of-requires c =
-    (search rules, reached-listable _ _ _ c.read_all-end.ensures)
+    reached-listable _ _ _ c.read_all-end.ensures
 
 pub returns : goal.returns
 returns c =
-    answers _ _ _ c.read_all-end.ensures _ _ c.text_of.ensures
+    answers _ _ _ c.read_all-end.ensures _ c.text_of.ensures

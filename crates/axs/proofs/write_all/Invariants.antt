@@ -1,11 +1,10 @@
--- What was taken stays within the text, and there are writes after which the rest is left. Assumes nothing.
-use Prim.Native.Nat.{◌-◌, ◌≤◌}
+-- There are writes after which what is left is left. Assumes nothing.
 use lib.ListN.{length}
 use Rattle.axs.proofs.Writes.{Taken}
 use Rattle.axs.proofs.write_all.Given as goal
 
-abbrev pub invariant-loop-done : goal.invariant-loop-done
-invariant-loop-done l = (l.done ≤ length l.text) × Taken (length l.text) (length l.text - l.done)
+abbrev pub invariant-loop-left : goal.invariant-loop-left
+invariant-loop-left l = Taken (length l.text) (length l.left)
 
-abbrev pub decreases-loop-done : goal.decreases-loop-done
-decreases-loop-done l = length l.text - l.done
+abbrev pub decreases-loop-left : goal.decreases-loop-left
+decreases-loop-left l = length l.left

@@ -1,5 +1,5 @@
 -- By cases. Assumes nothing.
-use mathlib.Core.Path.{sym, ap}
+use Rattle.std.proofs.Common.{sym, ap}
 use Rattle.capi.specs.Places.{truth_number}
 use Rattle.capi.proofs.truth_number.Goals as goal
 

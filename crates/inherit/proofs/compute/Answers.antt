@@ -1,220 +1,104 @@
 -- Each return is a case of `compute_of`, by the tests that led there. Assumes nothing.
-use mathlib.Core.Path.{◌≡◌, refl, sym, ap, subst, ◌∙◌}
-use mathlib.Core.Bool.{true, not}
+use native.Mathlib.Omega.{arith}
+use mathlib.Core.Path.{sym, ap, ◌∙◌}
 use mathlib.Core.List.{List}
 use Prim.Native.Nat.{ℕ}
-use lib.Dec.{eqb}
-use borrow.Author.Tests.{ne_eqb}
-use native.Mathlib.Omega.{arith}
 use lib.ListN.{length}
-use Rattle.list.specs.Entry.{access}
-use Rattle.list.specs.Answer.{Values, refused}
-use Rattle.inherit.specs.declared.Computed.{Computed}
-use Rattle.inherit.specs.declared.Computed.TheVariants.{Refused}
-use Rattle.inherit.specs.Asked.{Asked, types_ok}
-use Rattle.inherit.specs.Branch.{result_of}
-use Rattle.inherit.specs.Compute.{ordinary, rule_ok, with_room, compute_of, bytes_for, written, asked_by, Tells, Answers}
-use Rattle.inherit.specs.Inner.Ending.{Ends}
-use Rattle.inherit.specs.Inner.Source.{source_of, Found}
-use Rattle.inherit.proofs.Sources.{still-good, still-bad, refuses}
+use lib.Seq.{length-take-le}
+use Rattle.std.proofs.lemmas.Result.{err_from_is_err_and}
+use Rattle.inherit.specs.Asked.{lent_list}
+use Rattle.inherit.specs.Compute.{asked_by}
 use Rattle.inherit.proofs.Refusals.{bad-rule, bad-parent, bad-creator, bad-default, bad-owner, bad-group, bad-types, all-good}
-use Rattle.inherit.proofs.compute.Tie as tie
-use Rattle.inherit.proofs.compute.Lts as lts
-use Rattle.inherit.proofs.compute.Reads as lts-reads
+use Rattle.inherit.proofs.Runs.{short-sid-of}
+use Rattle.inherit.proofs.Ended.{settle, ran, rule-named, rule-unnamed, four-most, ends-asked}
 use Rattle.inherit.proofs.compute.Goals as goal
+use Rattle.inherit.proofs.compute.Goals.{then-not-ordinary-via-then-not-ordinary, then-not-ordinary-via-else-not-ordinary+then-not-ordinary-2}
 
-abbrev Else1 : Type 0
-Else1 = lts.Else1 tie.the-claims lts-reads.Pre lts-reads.Post
+pub returns-in_err-rule : goal.returns-in_err-rule
+returns-in_err-rule c =
+    let a = c.args in
+    let q = asked_by a.rule a.settings a.mapping (lent_list a.parent) (lent_list a.creator) (lent_list a.default) a.types.now a.owner.now a.group.now in
+    let p = err_from_is_err_and c.from_residual.result c.from_residual.ensures.1 in
+    let u = rule-unnamed a.rule c.in_err-rule.field-0.0 (sym c.try_from.ensures ∙ c.in_err-rule.was) in
+    rw (p.1, p.2, u.is) (settle q a.out.now _ (bad-rule q (length a.out.now) u.bad))
 
-abbrev Start : Type 0
-Start = lts.Start tie.the-claims lts-reads.Pre lts-reads.Post
+pub returns-in_err-inherited : goal.returns-in_err-inherited
+returns-in_err-inherited c =
+    let a = c.args in
+    let q = asked_by a.rule a.settings a.mapping (lent_list a.parent) (lent_list a.creator) (lent_list a.default) a.types.now a.owner.now a.group.now in
+    let p = err_from_is_err_and c.from_residual-in_err-inherited.result c.from_residual-in_err-inherited.ensures.1 in
+    let r = rule-named a.rule c.in_ok-rule.rule (sym c.try_from.ensures ∙ c.in_ok-rule.was) in
+    rw (p.1, p.2) (settle q a.out.now c.in_err-inherited.field-0.0 (bad-parent q (length a.out.now) r.good _ c.in_err-inherited.ensures))
 
-abbrev Else2 : Type 0
-Else2 = lts.Else2 tie.the-claims lts-reads.Pre lts-reads.Post
+pub returns-in_err-own : goal.returns-in_err-own
+returns-in_err-own c =
+    let a = c.args in
+    let q = asked_by a.rule a.settings a.mapping (lent_list a.parent) (lent_list a.creator) (lent_list a.default) a.types.now a.owner.now a.group.now in
+    let p = err_from_is_err_and c.from_residual-in_err-own.result c.from_residual-in_err-own.ensures.1 in
+    let r = rule-named a.rule c.in_ok-rule.rule (sym c.try_from.ensures ∙ c.in_ok-rule.was) in
+    rw (p.1, p.2) (settle q a.out.now c.in_err-own.field-0.0 (bad-creator q (length a.out.now) r.good c.in_ok-inherited.ensures.over _ c.in_err-own.ensures))
 
-abbrev Else3 : Type 0
-Else3 = lts.Else3 tie.the-claims lts-reads.Pre lts-reads.Post
-
-abbrev Else4 : Type 0
-Else4 = lts.Else4 tie.the-claims lts-reads.Pre lts-reads.Post
-
-abbrev Else5 : Type 0
-Else5 = lts.Else5 tie.the-claims lts-reads.Pre lts-reads.Post
-
-abbrev Else6 : Type 0
-Else6 = lts.Else6 tie.the-claims lts-reads.Pre lts-reads.Post
-
-abbrev Else7 : Type 0
-Else7 = lts.Else7 tie.the-claims lts-reads.Pre lts-reads.Post
-
--- a refusal leaves the buffer as it was
-settle : (a : Asked) (out : List ℕ) (k w at : ℕ) → (k ≡ 0 → ⊥) → refused k w at ≡ compute_of a (length out) → Answers a out (Refused k w at) out
-unfolding written
-settle a out k w at n e =
-    record {
-      answer = record { values = e; refuses = subst (λ (v : Values). true ≡ not (eqb v.number 0)) e (rw (ne_eqb k 0 n) refl) };
-      buffer = subst (λ (v : Values). out ≡ written v (bytes_for (result_of access a)) out) e refl;
-    }
-
--- once everything was tested, the result's end is the call's
-ran : (a : Asked) (out : List ℕ) {r : Computed} {after : List ℕ} → compute_of a (length out) ≡ with_room (length out) (result_of access a)
-    → Ends (result_of access a) out r after → Answers a out r after
-ran a out {r} e f =
-    record {
-      answer = subst (Tells r) (sym e) f.answer;
-      buffer = f.buffer ∙ ap (λ (v : Values). written v (bytes_for (result_of access a)) out) (sym e);
-    }
-
--- where the call begins, from behind each test that was passed; below, k1 to k7 are these places
-abbrev start1 : Else1 → Start
-start1 c = c.before.before.before.before.before.before.before.before.before
-
-abbrev start2 : Else2 → Start
-start2 c = start1 c.before.before.before
-
-abbrev start3 : Else3 → Start
-start3 c = start2 c.before.before.before
-
-abbrev start4 : Else4 → Start
-start4 c = start3 c.before.before.before
-
-abbrev start5 : Else5 → Start
-start5 c = start4 c.before.before
-
-abbrev start6 : Else6 → Start
-start6 c = start5 c.before.before
-
-abbrev start7 : Else7 → Start
-start7 c = start6 c.before.before
-
--- what the arguments there ask
-abbrev asked : Start → Asked
-asked s =
-    let a = s.args in
-    asked_by a.rule a.settings a.mapping a.parent.now a.creator.now a.default.now a.types.now a.owner.now a.group.now
-
-abbrev room : Start → ℕ
-room s = length s.args.out.now
-
--- what each test that was passed says
-rule-good : (c : Else1) → rule_ok (start1 c).args.rule ≡ true
-rule-good c = sym c.rule_ok.ensures ∙ c.if-not-rule_ok.false
-
-parent-found : (c : Else2) → Found (asked (start2 c)).parent c.source_of-p.result
-parent-found c =
-    let r = c.source_of-p.ensures in
-    record { is = r.0; good = c.if-p-ne0.false; few = r.1 }
-
-creator-found : (c : Else3) → Found (asked (start3 c)).creator c.source_of-c.result
-creator-found c =
-    let r = c.source_of-c.ensures in
-    record { is = r.0; good = c.if-c-ne0.false; few = r.1 }
-
-default-found : (c : Else4) → Found (asked (start4 c)).default c.source_of-d.result
-default-found c =
-    let r = c.source_of-d.ensures in
-    record { is = r.0; good = c.if-d-ne0.false; few = r.1 }
-
-owner-good : (c : Else5) → ordinary (start5 c).args.owner.now ≡ true
-owner-good c = sym c.ordinary.ensures ∙ c.if-not-ordinary.false
-
-group-good : (c : Else6) → ordinary (start6 c).args.group.now ≡ true
-group-good c = sym c.ordinary-2.ensures ∙ c.if-not-ordinary-2.false
-
-types-good : (c : Else7) → types_ok (asked (start7 c)).types ≡ true
-types-good c = sym c.types_ok.ensures ∙ c.if-not-types_ok.false
-
--- the tests of the rule and of the three lists were passed
-record Readable (s : Start) : Type 0 where
-  rule-passed : rule_ok s.args.rule ≡ true
-  parent-passed : (source_of (asked s).parent).number ≡ 0
-  creator-passed : (source_of (asked s).creator).number ≡ 0
-  default-passed : (source_of (asked s).default).number ≡ 0
-
-lists-good : (c : Else4) → Readable (start4 c)
-lists-good c =
-    record {
-      rule-passed = rule-good c.before.before.before.before.before.before.before.before.before;
-      parent-passed = still-good (parent-found c.before.before.before.before.before.before);
-      creator-passed = still-good (creator-found c.before.before.before);
-      default-passed = still-good (default-found c);
-    }
-
-pub returns-then-not-rule_ok : goal.returns-then-not-rule_ok
-returns-then-not-rule_ok c =
-    let at_10 = c.before.before.before.before.before.before.before.before.before.before in
-    let bad = sym c.rule_ok.ensures ∙ c.if-not-rule_ok.true in
-    settle (asked at_10) c.args.out.now 12 0 0 (λ z. omega arith) (bad-rule (asked at_10) (room at_10) bad)
-
-pub returns-then-p-ne0 : goal.returns-then-p-ne0
-returns-then-p-ne0 c =
-    let s = start1 c.before.before.before.before in
-    let e = c.source_of-p.ensures.0 in
-    settle (asked s) s.args.out.now _ 1 _ c.if-p-ne0.true
-    (refuses 1 e
-    ∙ bad-parent (asked s) (room s) (rule-good c.before.before.before.before) (still-bad e c.if-p-ne0.true))
-
-pub returns-then-c-ne0 : goal.returns-then-c-ne0
-returns-then-c-ne0 c =
-    let s = start2 c.before.before.before.before in
-    let e = c.source_of-c.ensures.0 in
-    settle (asked s) s.args.out.now _ 2 _ c.if-c-ne0.true
-    (refuses 2 e
-    ∙ bad-creator (asked s) (room s)
-    (rule-good c.before.before.before.before.before.before.before) (still-good (parent-found c.before.before.before.before)) (still-bad e c.if-c-ne0.true))
-
-pub returns-then-d-ne0 : goal.returns-then-d-ne0
-returns-then-d-ne0 c =
-    let s = start3 c.before.before.before.before in
-    let e = c.source_of-d.ensures.0 in
-    settle (asked s) s.args.out.now _ 3 _ c.if-d-ne0.true
-    (refuses 3 e
-    ∙ bad-default (asked s) (room s)
-    (rule-good c.before.before.before.before.before.before.before.before.before.before) (still-good (parent-found c.before.before.before.before.before.before.before)) (still-good (creator-found c.before.before.before.before)) (still-bad e c.if-d-ne0.true))
+pub returns-in_err-all : goal.returns-in_err-all
+returns-in_err-all c =
+    let a = c.args in
+    let q = asked_by a.rule a.settings a.mapping (lent_list a.parent) (lent_list a.creator) (lent_list a.default) a.types.now a.owner.now a.group.now in
+    let p = err_from_is_err_and c.from_residual-in_err-all.result c.from_residual-in_err-all.ensures.1 in
+    let r = rule-named a.rule c.in_ok-rule.rule (sym c.try_from.ensures ∙ c.in_ok-rule.was) in
+    rw (p.1, p.2) (settle q a.out.now c.in_err-all.field-0.0 (bad-default q (length a.out.now) r.good c.in_ok-inherited.ensures.over c.in_ok-own.ensures.over _ c.in_err-all.ensures))
 
 pub returns-then-not-ordinary : goal.returns-then-not-ordinary
 returns-then-not-ordinary c =
-    let s = start4 c.before.before.before in
-    let g = lists-good c.before.before.before in
-    let bad = sym c.ordinary.ensures ∙ c.if-not-ordinary.true in
-    settle (asked s) s.args.out.now 6 0 0 (λ z. omega arith)
-    (bad-owner (asked s) (room s)
-    g.rule-passed g.parent-passed g.creator-passed g.default-passed bad)
-
-pub returns-then-not-ordinary-2 : goal.returns-then-not-ordinary-2
-returns-then-not-ordinary-2 c =
-    let s = start4 c.before.before.before.before.before in
-    let g = lists-good c.before.before.before.before.before in
-    let bad = sym c.ordinary-2.ensures ∙ c.if-not-ordinary-2.true in
-    settle (asked s) s.args.out.now 6 0 0 (λ z. omega arith)
-    (bad-group (asked s) (room s)
-    g.rule-passed g.parent-passed g.creator-passed g.default-passed (owner-good c.before.before.before) bad)
+    let a = c.args in
+    let q = asked_by a.rule a.settings a.mapping (lent_list a.parent) (lent_list a.creator) (lent_list a.default) a.types.now a.owner.now a.group.now in
+    let r = rule-named a.rule c.in_ok-rule.rule (sym c.try_from.ensures ∙ c.in_ok-rule.was) in
+    let p = c.in_ok-inherited.ensures.over in
+    let o = c.in_ok-own.ensures.over in
+    let d = c.in_ok-all.ensures.over in
+    rw c.from.ensures
+    (elim c.then-not-ordinary.branch [
+      | then-not-ordinary-via-then-not-ordinary w ↦ settle q a.out.now _ (bad-owner q (length a.out.now) r.good p o d (sym c.ordinary.ensures ∙ w.if-not-ordinary.true))
+      | then-not-ordinary-via-else-not-ordinary+then-not-ordinary-2 w ↦ settle q a.out.now _
+          (bad-group q (length a.out.now) r.good p o d (sym c.ordinary.ensures ∙ w.if-not-ordinary.false) (sym w.ordinary-else-not-ordinary.ensures ∙ w.if-not-ordinary-2.true))
+    ])
 
 pub returns-then-not-types_ok : goal.returns-then-not-types_ok
 returns-then-not-types_ok c =
-    let s = start4 c.before.before.before.before.before.before.before in
-    let g = lists-good c.before.before.before.before.before.before.before in
-    let bad = sym c.types_ok.ensures ∙ c.if-not-types_ok.true in
-    settle (asked s) s.args.out.now 7 0 0 (λ z. omega arith)
-    (bad-types (asked s) (room s)
-    g.rule-passed g.parent-passed g.creator-passed g.default-passed (owner-good c.before.before.before.before.before) (group-good c.before.before.before) bad)
+    let a = c.args in
+    let q = asked_by a.rule a.settings a.mapping (lent_list a.parent) (lent_list a.creator) (lent_list a.default) a.types.now a.owner.now a.group.now in
+    let r = rule-named a.rule c.in_ok-rule.rule (sym c.try_from.ensures ∙ c.in_ok-rule.was) in
+    rw c.from-then-not-types_ok.ensures
+    (settle q a.out.now _
+    (bad-types q (length a.out.now) r.good c.in_ok-inherited.ensures.over c.in_ok-own.ensures.over c.in_ok-all.ensures.over
+    (sym c.ordinary.ensures ∙ c.if-not-ordinary.false) (sym c.ordinary-else-not-ordinary.ensures ∙ c.if-not-ordinary-2.false)
+    (sym c.types_ok.ensures ∙ c.if-not-types_ok.true)))
 
-pub run-requires : goal.run-requires
-run-requires c =
-    let at_12 = c.before.before.before.before.before.before.before.before.before.before.before.before in
-    let at_14 = at_12.before.before in
+pub slice_bounds-four-end : goal.slice_bounds-four-end
+slice_bounds-four-end c =
+    omega (arith, four-most c.args.types.now (sym c.types_ok.ensures ∙ c.if-not-types_ok.false), ap (λ (x : List (List ℕ)). length x) c.four_of-four.ensures)
+
+pub slice_bounds-terms-end : goal.slice_bounds-terms-end
+slice_bounds-terms-end c =
+    sym
+    (length-take-le _ c.four_of-four.result
+    (omega (arith, four-most c.args.types.now (sym c.types_ok.ensures ∙ c.if-not-types_ok.false), ap (λ (x : List (List ℕ)). length x) c.four_of-four.ensures)))
+
+pub invariant_of-terms : goal.invariant_of-terms
+invariant_of-terms c =
     record {
-      parent-found = parent-found at_14;
-      creator-found = creator-found c.before.before.before.before.before.before.before.before.before.before.before;
-      default-found = default-found c.before.before.before.before.before.before.before.before;
-      owner-good = owner-good c.before.before.before.before.before.before;
-      group-good = group-good c.before.before.before.before;
-      types-good = types-good c.before.before;
+      owner_short = short-sid-of c.args.owner.now (sym c.ordinary.ensures ∙ c.if-not-ordinary.false);
+      group_short = short-sid-of c.args.group.now (sym c.ordinary-else-not-ordinary.ensures ∙ c.if-not-ordinary-2.false);
     }
 
 pub returns : goal.returns
 returns c =
-    let s = start4 c.before.before.before.before.before.before.before.before.before.before.before in
-    let g = lists-good c.before.before.before.before.before.before.before.before.before.before.before in
-    let a = all-good (asked s) (room s) g.rule-passed g.parent-passed g.creator-passed g.default-passed (owner-good c.before.before.before.before.before.before.before.before.before) (group-good c.before.before.before.before.before.before.before) (types-good c.before.before.before.before.before) in
-    ran (asked s) s.args.out.now a c.run.ensures
+    let a = c.args in
+    let q = asked_by a.rule a.settings a.mapping (lent_list a.parent) (lent_list a.creator) (lent_list a.default) a.types.now a.owner.now a.group.now in
+    let r = rule-named a.rule c.in_ok-rule.rule (sym c.try_from.ensures ∙ c.in_ok-rule.was) in
+    let g = all-good q (length a.out.now) r.good c.in_ok-inherited.ensures.over c.in_ok-own.ensures.over c.in_ok-all.ensures.over
+    (sym c.ordinary.ensures ∙ c.if-not-ordinary.false) (sym c.ordinary-else-not-ordinary.ensures ∙ c.if-not-ordinary-2.false)
+    (sym c.types_ok.ensures ∙ c.if-not-types_ok.false) in
+    ran q a.out.now g
+    (ends-asked a.rule a.settings a.mapping (lent_list a.parent) (lent_list a.creator) (lent_list a.default) a.types.now a.owner.now a.group.now
+    c.in_ok-rule.rule c.four_of-four.result r.is c.four_of-four.ensures c.in_ok-inherited.inherited c.in_ok-own.own c.in_ok-all.all
+    c.in_ok-inherited.ensures.entries c.in_ok-own.ensures.entries c.in_ok-all.ensures.entries c.in_ok-own.ensures.present c.in_ok-all.ensures.present
+    _ _ _ c.run.ensures)

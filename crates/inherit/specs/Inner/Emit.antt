@@ -1,25 +1,26 @@
 -- How the code goes over a list: by passes, each entry through its pass and the last step at once.
-use Rattle.std.specs.Prelude.{ℕ, ◌+◌, Bool, true, cond, ◌||◌, length, set, take, drop}
+use Rattle.std.specs.Prelude.{ℕ, ◌+◌, Bool, true, cond, ◌||◌, length, set, Option}
+use Rattle.std.specs.Bool.{then_some}
 use mathlib.Core.List.{List, [], ◌∷◌, ◌++◌, flatten}
 use Rattle.std.specs.Int.Bits.{bit_or}
 use Rattle.list.specs.Identity.{placeholder_of}
 use Rattle.list.specs.Entry.{access, kind_of, flags_of, mask_of, middle_of, sid_of, tail_of, EntryParts, entry_bytes}
-use Rattle.list.specs.List.{cut}
 use Rattle.inherit.specs.declared.copies.Pass.{Pass}
 use Rattle.inherit.specs.declared.copies.Pass.TheVariants.{First, Second, Own, All}
 use Rattle.inherit.specs.declared.copies.Origin.{Origin}
 use Rattle.inherit.specs.declared.copies.Origin.TheVariants.{Own as Origin-as-Own, Parent, Default}
-use Rattle.inherit.specs.declared.copies.Terms.{Terms}
+use Rattle.inherit.specs.declared.terms.Terms.{Terms}
 use Rattle.inherit.specs.declared.passes.Measure.{Measure}
 use Rattle.inherit.specs.Asked.{Given}
 use Rattle.inherit.specs.Copies.{kept_flags, takes_first, takes_second, takes_own}
 use Rattle.inherit.specs.Last.{in_place, last_mask, resolved}
 use Rattle.inherit.specs.Compute.{any_object}
+use Rattle.inherit.specs.Inner.Rules.{number_by}
 
 -- what the code is given, as the definitions have it
-abbrev pub given_by : Terms → List (List ℕ) → List ℕ → List ℕ → Given
-given_by t types owner group =
-    record { rule = t.rule; container = t.container; mapping = t.mapping; types = take t.count types; owner = owner; group = group }
+abbrev pub given_by : Terms → Given
+given_by t =
+    record { rule = number_by t.rule; container = t.container; mapping = t.mapping; types = t.types.now; owner = t.owner.now; group = t.group.now }
 
 -- the parent's first part, its second, the creator's own entries, all of the default list
 unfoldable pub takes_by : Given → Pass → List ℕ → Bool
@@ -33,6 +34,10 @@ flags_by First flags = bit_or (kept_flags access flags) 0x10
 flags_by Second flags = bit_or flags 0x18
 flags_by Own flags = flags
 flags_by All flags = flags
+
+-- the flags of an entry's copy, where a pass takes it
+abbrev pub picked : Given → Pass → List ℕ → Option ℕ
+picked g p e = then_some (takes_by g p e) (flags_by p (flags_of e))
 
 -- what stands in the SID's place
 abbrev pub put_in : List ℕ → List ℕ → List ℕ → List ℕ
@@ -58,10 +63,6 @@ emit_of g p e = cond (takes_by g p e) (resolved g (set e 1 (flags_by p (flags_of
 unfoldable pub emit_all : Given → Pass → List (List ℕ) → List (List ℕ)
 emit_all g p [] = []
 emit_all g p (e ∷ es) = emit_of g p e ++ emit_all g p es
-
--- the n entries of the list s
-abbrev pub emitted : Given → Pass → ℕ → List ℕ → List (List ℕ)
-emitted g p n s = emit_all g p (cut n (drop 8 s))
 
 -- how many bytes and entries, and whether an object entry is among them
 abbrev pub measure_of : List (List ℕ) → Measure

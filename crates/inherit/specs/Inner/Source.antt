@@ -1,39 +1,34 @@
--- What the code finds of a list that may be absent: its refusal, or how its entries are read.
-use Rattle.std.specs.Prelude.{◌≡◌, Bool, true, false, ℕ, ◌≤◌, List}
+-- What the code finds of a list that may be absent: the entries that it has, or its refusal.
+use Rattle.std.specs.Prelude.{◌≡◌, Bool, true, false, ℕ, Option, Result, Ok, Err}
+use Rattle.std.specs.Option.{is_some}
+use Rattle.std.specs.Result.{is_ok}
 use Rattle.std.proofs.Math.Option.{none, some}
+use Rattle.refusal.specs.Numbers.{number_of}
+use Rattle.refusal.specs.declared.Fault.{Fault}
 use Rattle.list.specs.Entry.{access}
-use Rattle.list.specs.List.{rev_of, check_of, MaybeList, lent}
-use Rattle.list.specs.declared.lists.Reading.{Reading}
-use Rattle.list.specs.declared.lists.Reading.TheVariants.{Done, Refused}
-use Rattle.inherit.specs.declared.Settings.{Settings}
-use Rattle.inherit.specs.declared.tests.Source.{Source}
-use Rattle.inherit.specs.Asked.{types_ok}
-use Rattle.inherit.specs.Compute.{ordinary}
+use Rattle.list.specs.List.{check_of, MaybeList}
+use Rattle.list.specs.Answer.{Values, refused}
+use Rattle.inherit.specs.declared.entries.Entries.{Entries}
+use Rattle.inherit.specs.Asked.{entries_if}
+use Rattle.inherit.specs.Compute.{readable}
+use Rattle.inherit.specs.Inner.Still.{held}
 
 -- a list is present
 abbrev pub given : MaybeList → Bool
 given none = false
 given (some s) = true
 
-unfoldable pub source_by : Reading → ℕ → Source
-source_by (Done len n end) rev = record { number = 0; offset = 0; rev = rev; count = n }
-source_by (Refused k at) rev = record { number = k; offset = at; rev = 0; count = 0 }
+-- it is absent, or reads as done
+unfoldable pub reads_if : MaybeList → Bool
+reads_if none = true
+reads_if (some s) = is_ok (check_of access s)
 
-unfoldable pub source_of : MaybeList → Source
-source_of none = record { number = 0; offset = 0; rev = 0; count = 0 }
-source_of (some s) = source_by (check_of access s) (rev_of s)
+-- its entries, where the answer leaves it to what follows; or the refusal that is the answer
+pub record Sourced (o : MaybeList) (which : ℕ) (s : Option Entries) : Type 0 where
+  pub entries : held s ≡ entries_if o
+  pub present : is_some s ≡ given o
+  pub over : (rest : Values) → readable o which rest ≡ rest
 
--- a list that may be absent was found good: src says how its entries are read
-pub record Found (o : MaybeList) (src : Source) : Type 0 where
-  pub is : src ≡ source_of o
-  pub good : src.number ≡ 0
-  pub few : src.count ≤ 65535
-
--- everything that is handed in was found good, but for the room
-pub record Tested (s : Settings) (p c d : Source) (parent creator default types owner group : List ℕ) : Type 0 where
-  pub parent-found : Found (lent s.parent parent) p
-  pub creator-found : Found (lent s.creator creator) c
-  pub default-found : Found (lent s.default default) d
-  pub owner-good : ordinary owner ≡ true
-  pub group-good : ordinary group ≡ true
-  pub types-good : types_ok types ≡ true
+abbrev pub Sources : MaybeList → ℕ → Result (Option Entries) Fault → Type 0
+Sources o which (Ok s) = Sourced o which s
+Sources o which (Err fault) = (rest : Values) → readable o which rest ≡ refused (number_of fault.why) fault.list fault.at

@@ -1,50 +1,50 @@
 -- Refused by the room, the parent, the limit, the list, the owner or the group, else the change that adds it: the laws of Changing. Assumes nothing.
-use native.Mathlib.Omega.{arith}
-use mathlib.Core.Path.{refl}
+use mathlib.Core.Path.{refl, sym, ◌∙◌}
 use Rattle.tree.proofs.Slots.{ordinary-most}
-use Rattle.tree.proofs.Tested.{refused, passed}
-use Rattle.tree.proofs.Changing.{add-no, add-list, add-owner, add-group, add-long, add_done, add-asks, add-parent}
+use Rattle.tree.proofs.Answered.{exits_by, passes, refuses, goes_on, stops_at, owners-passed, short-passed}
+use Rattle.tree.proofs.Changing.{add-first, add_done, add-asks, add-parent}
 use Rattle.tree.proofs.add.Goals as goal
 
-pub returns-then-k-ne0 : goal.returns-then-k-ne0
-returns-then-k-ne0 c = add-no _ _ _ c.add_fault-k.ensures _ c.if-k-ne0.true c.refused.ensures
+pub returns-in_err-test_add : goal.returns-in_err-test_add
+returns-in_err-test_add c =
+    stops_at _ _ (add-first _ _) (refuses c.test_add.ensures c.in_err-test_add.was) (exits_by c.from_residual.ensures.1)
 
-pub returns-then-f-ne0 : goal.returns-then-f-ne0
-returns-then-f-ne0 c =
-    add-list _ _ _ c.add_fault-k.ensures c.if-k-ne0.false _ c.fault_of-f.ensures c.if-f-ne0.true
+pub returns-in_err-test_list : goal.returns-in_err-test_list
+returns-in_err-test_list c =
+    let p = goes_on _ _ (add-first _ _) (passes c.test_add.ensures c.in_ok-test_add.was) in
+    stops_at _ _ p (sym c.test_list.ensures ∙ c.in_err-test_list.was) (exits_by c.from_residual-in_err-test_list.ensures.1)
 
-pub returns-then-not-ordinary : goal.returns-then-not-ordinary
-returns-then-not-ordinary c =
-    add-owner _ _ _ c.add_fault-k.ensures c.if-k-ne0.false _ c.fault_of-f.ensures c.if-f-ne0.false _
-    (refused c.ordinary.ensures c.if-not-ordinary.true) c.refused-then-not-ordinary.ensures
+pub returns-in_err-test_owners : goal.returns-in_err-test_owners
+returns-in_err-test_owners c =
+    let p = goes_on _ _ (add-first _ _) (passes c.test_add.ensures c.in_ok-test_add.was) in
+    let q = goes_on _ _ p (sym c.test_list.ensures ∙ c.in_ok-test_list.was) in
+    stops_at _ _ q (refuses c.test_owners.ensures c.in_err-test_owners.was) (exits_by c.from_residual-in_err-test_owners.ensures.1)
 
-pub returns-then-not-ordinary-2 : goal.returns-then-not-ordinary-2
-returns-then-not-ordinary-2 c =
-    add-group _ _ _ c.add_fault-k.ensures c.if-k-ne0.false _ c.fault_of-f.ensures c.if-f-ne0.false
-    (passed c.ordinary.ensures c.if-not-ordinary.false) _ (refused c.ordinary-2.ensures c.if-not-ordinary-2.true)
-    c.refused-then-not-ordinary-2.ensures
-
-pub returns-then-not-short : goal.returns-then-not-short
-returns-then-not-short c =
-    add-long _ _ _ c.add_fault-k.ensures c.if-k-ne0.false _ c.fault_of-f.ensures c.if-f-ne0.false
-    (passed c.ordinary.ensures c.if-not-ordinary.false) (passed c.ordinary-2.ensures c.if-not-ordinary-2.false) _
-    (refused c.short.ensures c.if-not-short.true) c.refused-then-not-short.ensures
+pub returns-in_err-test_short : goal.returns-in_err-test_short
+returns-in_err-test_short c =
+    let p = goes_on _ _ (add-first _ _) (passes c.test_add.ensures c.in_ok-test_add.was) in
+    let q = goes_on _ _ p (sym c.test_list.ensures ∙ c.in_ok-test_list.was) in
+    let o = goes_on _ _ q (passes c.test_owners.ensures c.in_ok-test_owners.was) in
+    stops_at _ _ o (refuses c.test_short.ensures c.in_err-test_short.was) (exits_by c.from_residual-in_err-test_short.ensures.1)
 
 pub lay_new-requires : goal.lay_new-requires
 lay_new-requires c =
-    let owner-ok = passed c.ordinary.ensures c.if-not-ordinary.false in
-    let group-ok = passed c.ordinary-2.ensures c.if-not-ordinary-2.false in
-    let short = passed c.short.ensures c.if-not-short.false in
-    record { parent_value = add-parent _ _ _ c.add_fault-k.ensures c.if-k-ne0.false; owner_len_bound = (ordinary-most _ owner-ok, (ordinary-most _ group-ok, (short, refl))) }
+    let o = owners-passed _ _ (sym c.test_owners.ensures ∙ c.in_ok-test_owners.was) in
+    let s = short-passed _ (sym c.test_short.ensures ∙ c.in_ok-test_short.was) in
+    record {
+      parent_value = add-parent _ _ (sym c.test_add.ensures ∙ c.in_ok-test_add.was);
+      owner_len_bound = (ordinary-most _ o.0, (ordinary-most _ o.1, (s, refl)));
+    }
 
 pub change-requires : goal.change-requires
 change-requires c =
-    let f = add-asks _ _ _ _ c.add_fault-k.ensures c.if-k-ne0.false c.number_in-n.ensures.0 in
-    (f.0, (f.1.0, (f.1.1, omega (arith, c.lay_new.auto.w))))
+    let f = add-asks _ _ _ (sym c.test_add.ensures ∙ c.in_ok-test_add.was) c.number_in-n.ensures.0 in
+    record { head = f.0; within = f.1 }
 
 pub returns : goal.returns
 returns c =
-    add_done _ _ _ c.add_fault-k.ensures c.if-k-ne0.false _ c.fault_of-f.ensures c.if-f-ne0.false
-    (passed c.ordinary.ensures c.if-not-ordinary.false) (passed c.ordinary-2.ensures c.if-not-ordinary-2.false) _ _ _ _
-    (passed c.short.ensures c.if-not-short.false)
-    c.number_in-n.ensures.0 c.lay_new.ensures c.change.ensures
+    let p = goes_on _ _ (add-first _ _) (passes c.test_add.ensures c.in_ok-test_add.was) in
+    let q = goes_on _ _ p (sym c.test_list.ensures ∙ c.in_ok-test_list.was) in
+    let o = goes_on _ _ q (passes c.test_owners.ensures c.in_ok-test_owners.was) in
+    let s = goes_on _ _ o (passes c.test_short.ensures c.in_ok-test_short.was) in
+    add_done _ _ s _ _ _ _ c.number_in-n.ensures.0 c.lay_new.ensures c.change.ensures

@@ -1,46 +1,33 @@
 -- The room and the object are tested, then its own data is given. Assumes nothing.
 use native.Mathlib.Omega.{arith}
-use mathlib.Core.Path.{◌≡◌, refl, sym, ap, ◌∙◌}
+use mathlib.Core.Path.{sym, ap, ◌∙◌}
 use mathlib.Core.List.{List}
-use mathlib.Core.Bool.{true}
 use Prim.Native.Nat.{ℕ}
+use mathlib.Core.Bool.{true}
 use lib.ListN.{length}
-use Rattle.tree.specs.declared.Answer.TheVariants.{Done}
-use Rattle.tree.specs.Calls.{copied, data_of, data_to}
-use Rattle.tree.specs.Inner.Faults.{object_fault}
-use Rattle.tree.proofs.Numbers.{promised, data-numbered}
-use Rattle.tree.proofs.Answered.{settle, on-object-good, on-object-bad, object-small, own-long}
-use Rattle.tree.proofs.data_of.Tie as tie
-use Rattle.tree.proofs.data_of.Lts as lts
-use Rattle.tree.proofs.data_of.Reads as lts-reads
+use Rattle.tree.specs.Calls.{tells, copied, data_of, data_to}
+use Rattle.tree.proofs.Numbers.{promised}
+use Rattle.tree.proofs.Answered.{settle, exits_by, passes, refuses, goes_on, stops_at, on-object-is, object-small, own-long}
 use Rattle.tree.proofs.data_of.Goals as goal
 
-abbrev Else1 : Type 0
-Else1 = lts.Else1 tie.the-claims lts-reads.Pre lts-reads.Post
-
-good : (c : Else1) → object_fault c.args.room.now c.args.object ≡ 0
-good c = sym c.object_fault-k.ensures ∙ c.if-k-ne0.false
-
-pub returns-then-k-ne0 : goal.returns-then-k-ne0
+pub returns-in_err-test_object : goal.returns-in_err-test_object
 unfolding data_to
-returns-then-k-ne0 c =
+returns-in_err-test_object c =
     let a = c.args in
-    let e = c.object_fault-k.ensures in
-    promised (data_to a.object a.room.now a.out.now) (data-numbered a.object a.room.now a.out.now)
-    (settle (on-object-bad a.room.now a.object _ _ (λ h. c.if-k-ne0.true (e ∙ h))) (c.refused.ensures ∙ rw e refl) refl)
+    stops_at a.out.now _ (on-object-is a.room.now a.object a.out.now _) (refuses c.test_object.ensures c.in_err-test_object.was) (exits_by c.from_residual.ensures.1)
 
 pub own-requires : goal.own-requires
-own-requires c = object-small _ _ (good c.before)
+own-requires c = object-small _ _ (sym c.test_object.ensures ∙ c.in_ok-test_object.was)
 
 pub give_data-requires : goal.give_data-requires
-give_data-requires c = omega (arith, ap length c.own.ensures, own-long _ _ (good c.before.before.before))
+give_data-requires c = omega (arith, ap length c.own.ensures, own-long _ _ (sym c.test_object.ensures ∙ c.in_ok-test_object.was))
 
 pub returns : goal.returns
 unfolding data_to
 returns c =
     let a = c.args in
-    promised (data_to a.object a.room.now a.out.now) (data-numbered a.object a.room.now a.out.now)
+    promised (data_to a.object a.room.now a.out.now)
     (settle
-    (on-object-good a.room.now a.object _ _ (good c.before.before.before.before.before.before)
-    ∙ ap (λ (x : List ℕ). copied (Done (length (data_of x)) true 0) (data_of x) a.out.now) (sym c.own.ensures))
+    (goes_on a.out.now _ (on-object-is a.room.now a.object a.out.now _) (passes c.test_object.ensures c.in_ok-test_object.was)
+    ∙ ap (λ (x : List ℕ). copied (tells (length (data_of x)) true 0) (data_of x) a.out.now) (sym c.own.ensures))
     c.give_data.ensures.0 c.give_data.ensures.1)

@@ -3,12 +3,11 @@ use native.Mathlib.Omega.{arith}
 use mathlib.Core.Path.{◌≡◌, refl, ap, ◌∙◌}
 use mathlib.Core.Bool.{true}
 use Prim.Native.Nat.{ℕ, ◌≤◌}
-use lib.ListN.{length, length-set}
+use Rattle.std.specs.Prelude.{Err}
+use lib.ListN.{length}
 use Rattle.octets.proofs.Places.{part-most}
-use Rattle.tree.specs.declared.Answer.{Answer}
-use Rattle.tree.specs.declared.Answer.TheVariants.{Done}
 use Rattle.tree.specs.Held.{id_in, owner_of, group_of}
-use Rattle.tree.specs.Calls.{data_of}
+use Rattle.tree.specs.Calls.{Answer, tells, data_of}
 use Rattle.tree.proofs.Answered.{settle, copied_all, copied_none, id-most, data-length, data-laid}
 use Rattle.tree.proofs.give_data.Tie as tie
 use Rattle.tree.proofs.give_data.Lts as lts
@@ -39,7 +38,7 @@ overflow_add-n-2 c = omega (arith, owner-few c.before.before.before, group-few c
 pub returns-then-out-n : goal.returns-then-out-n
 returns-then-out-n c =
     let l = data-length c.args.b.now _ _ _ c.requires refl (owner-is c.before.before.before.before.before) (group-is c.before.before.before) in
-    settle (copied_none _ (data_of c.args.b.now) _ (omega arith)) c.refused.ensures refl
+    settle (copied_none _ (data_of c.args.b.now) _ (omega arith)) (ap Err c.into.ensures) refl
 
 pub lay-requires : goal.lay-requires
 lay-requires c =
@@ -49,18 +48,8 @@ lay-requires c =
 pub overflow_cast-out : goal.overflow_cast-out
 overflow_cast-out c = omega (arith, owner-few c.before.before.before.before.before.before.before.before.before)
 
-pub lay-requires-2 : goal.lay-requires-2
-lay-requires-2 c = simp length-set (omega (arith, c.lay.auto.w))
-
 pub overflow_cast-out-2 : goal.overflow_cast-out-2
 overflow_cast-out-2 c = omega (arith, group-few c.before.before.before.before.before.before.before.before.before.before.before)
-
-pub bounds-out-n : goal.bounds-out-n
-bounds-out-n c = omega (arith, simp length-set at c.lay-2.auto.w, c.lay.auto.w)
-
-pub lay-requires-3 : goal.lay-requires-3
-lay-requires-3 c =
-    simp length-set (omega (arith, simp length-set at c.lay-2.auto.w, c.lay.auto.w))
 
 pub overflow_cast-result : goal.overflow_cast-result
 overflow_cast-result c =
@@ -68,10 +57,6 @@ overflow_cast-result c =
     let at_15 = at_12.before.before.before in
     let at_17 = at_15.before.before in
     omega (arith, owner-few at_17, group-few at_15)
-
-pub shape_of-out : goal.shape_of-out
-shape_of-out c =
-    omega (arith, simp length-set at c.lay-3.auto.w, simp length-set at c.lay-2.auto.w, c.lay.auto.w)
 
 pub returns : goal.returns
 returns c =
@@ -82,6 +67,6 @@ returns c =
     let eg = group-is at_15 in
     let eo = owner-is at_17 in
     let l = data-length c.args.b.now _ _ _ c.requires p eo eg in
-    settle (copied_all _ (data_of c.args.b.now) _ (omega arith)) (ap {B = Answer} (λ (n : ℕ). Done n true 0) l)
+    settle (copied_all _ (data_of c.args.b.now) _ (omega arith)) (ap {B = Answer} (λ (n : ℕ). tells n true 0) l)
     (data-laid c.args.b.now _ _ _ c.requires p eo eg c.args.out.now _ _ _ (omega arith)
     c.lay.ensures c.lay-2.ensures c.lay-3.ensures)

@@ -1,38 +1,41 @@
 -- Refused by the room, the object or the list, else the change of its slot: the laws of Changing. Assumes nothing.
 use native.Mathlib.Omega.{arith}
-use mathlib.Core.Path.{refl}
+use mathlib.Core.Path.{refl, sym, ◌∙◌}
 use Rattle.tree.specs.Calls.{edit_at, edit_bytes}
 use Rattle.tree.proofs.Lays.{length-slot}
-use Rattle.tree.proofs.Tested.{refused, passed}
-use Rattle.tree.proofs.Changing.{filled, list-fails, long-fails, list-passes, alter-no, alter-refused, alter-done, alter-asks}
+use Rattle.tree.proofs.Answered.{exits_by, passes, refuses, goes_on, stops_at, short-passed}
+use Rattle.tree.proofs.Changing.{filled, list-tested, alter-is, alter-done, alter-asks}
 use Rattle.tree.proofs.set_list.Goals as goal
 
-pub returns-then-k-ne0 : goal.returns-then-k-ne0
-returns-then-k-ne0 c = alter-no _ _ _ _ c.object_fault-k.ensures _ c.if-k-ne0.true c.refused.ensures
+pub returns-in_err-test_object : goal.returns-in_err-test_object
+returns-in_err-test_object c =
+    stops_at _ _ (alter-is _ _ _) (refuses c.test_object.ensures c.in_err-test_object.was) (exits_by c.from_residual.ensures.1)
 
-pub returns-then-f-ne0 : goal.returns-then-f-ne0
-returns-then-f-ne0 c =
-    alter-refused _ _ _ _ c.object_fault-k.ensures c.if-k-ne0.false _ _ _ _
-    (list-fails _ _ _ c.fault_of-f.ensures c.if-f-ne0.true) refl
+pub returns-in_err-test_list : goal.returns-in_err-test_list
+returns-in_err-test_list c =
+    let q = goes_on _ _ (alter-is _ _ _) (passes c.test_object.ensures c.in_ok-test_object.was) in
+    stops_at _ _ (q ∙ list-tested _ _ _) (sym c.test_list.ensures ∙ c.in_err-test_list.was) (exits_by c.from_residual-in_err-test_list.ensures.1)
 
-pub returns-then-not-short : goal.returns-then-not-short
-returns-then-not-short c =
-    alter-refused _ _ _ _ c.object_fault-k.ensures c.if-k-ne0.false _ _ _ _
-    (long-fails _ _ _ c.fault_of-f.ensures c.if-f-ne0.false (refused c.short.ensures c.if-not-short.true))
-    c.refused-then-not-short.ensures
+pub returns-in_err-test_short : goal.returns-in_err-test_short
+returns-in_err-test_short c =
+    let q = goes_on _ _ (alter-is _ _ _) (passes c.test_object.ensures c.in_ok-test_object.was) in
+    let p = goes_on _ _ (q ∙ list-tested _ _ _) (sym c.test_list.ensures ∙ c.in_ok-test_list.was) in
+    stops_at _ _ p (refuses c.test_short.ensures c.in_err-test_short.was) (exits_by c.from_residual-in_err-test_short.ensures.1)
 
 pub lay_slot-requires : goal.lay_slot-requires
-lay_slot-requires c = (passed c.short.ensures c.if-not-short.false, omega arith)
+lay_slot-requires c = (short-passed _ (sym c.test_short.ensures ∙ c.in_ok-test_short.was), omega arith)
 
 pub change-requires : goal.change-requires
 change-requires c =
-    let f = alter-asks _ _ _ _ c.object_fault-k.ensures c.if-k-ne0.false c.number_in-n.ensures.0 in
-    (f.0, (f.1.0, (f.1.1, omega (arith, c.lay_slot.auto.w))))
+    let f = alter-asks _ _ _ (sym c.test_object.ensures ∙ c.in_ok-test_object.was) c.number_in-n.ensures.0 in
+    record { head = f.0; within = f.1 }
 
 pub returns : goal.returns
 unfolding edit_at edit_bytes
 returns c =
-    let s = passed c.short.ensures c.if-not-short.false in
-    alter-done _ _ _ _ c.object_fault-k.ensures c.if-k-ne0.false _ _ _ _ _
-    (list-passes _ _ _ c.fault_of-f.ensures c.if-f-ne0.false s) c.number_in-n.ensures.0 refl
+    let s = short-passed _ (sym c.test_short.ensures ∙ c.in_ok-test_short.was) in
+    let q = goes_on _ _ (alter-is _ _ _) (passes c.test_object.ensures c.in_ok-test_object.was) in
+    let p = goes_on _ _ (q ∙ list-tested _ _ _) (sym c.test_list.ensures ∙ c.in_ok-test_list.was) in
+    let t = goes_on _ _ p (passes c.test_short.ensures c.in_ok-test_short.was) in
+    alter-done _ _ _ t _ _ _ _ _ c.number_in-n.ensures.0 refl
     (filled 1027 _ _ _ (length-slot _ s) refl c.lay_slot.ensures) c.change.ensures

@@ -1,15 +1,11 @@
 -- How the code hands over what a computation is asked.
 use Rattle.inherit.specs.declared.Settings.{Settings}
 use Rattle.inherit.specs.Asked.{Asked}
-use Rattle.inherit.specs.Inner.Source.{given}
 
 -- its settings, as the computation takes them
 abbrev pub settings_asked : Asked → Settings
 settings_asked a =
     record {
-      parent = given a.parent;
-      creator = given a.creator;
-      default = given a.default;
       container = a.container;
       auto = a.auto-inherit;
       defaulted = a.default-descriptor;

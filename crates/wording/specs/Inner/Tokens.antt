@@ -1,9 +1,11 @@
 -- The tokens of a tree as the code comes upon them: a row's first part, then each further part with its operator behind it.
 use Rattle.std.specs.Prelude.{List, [], ◌∷◌, ◌++◌, Bool, true, false}
-use Rattle.condition.specs.Token.{Token, push, compares, ands, ors, nots}
+use Rattle.condition.specs.Token.{Compare, equal, unequal, below, at_most, above, at_least, Token, push, compares, ands, ors, nots}
 use Rattle.wording.specs.Grammar.{Side, Condition, last, or, Term, only, and, Factor, not, paren, compare}
 use Rattle.wording.specs.Reader.{Level, condition, term, factor, TreeOf}
 use Rattle.wording.specs.Stored.{operand_of}
+use Rattle.wording.specs.declared.operators.Operator.{Operator}
+use Rattle.wording.specs.declared.operators.Operator.TheVariants.{Equal, Unequal, Below, AtMost, Above, AtLeast, And, Or, Not}
 
 abbrev pub tokens_s : Side → List Token
 tokens_s a = push (operand_of a) ∷ []
@@ -39,3 +41,23 @@ toks condition true t = tokens_or t
 toks term false t = tokens_t t
 toks term true t = tokens_and t
 toks factor b t = tokens_f t
+
+-- the token of each operator of the code, and the operator that a comparison is
+abbrev pub token_of : Operator → Token
+token_of Equal = compares equal
+token_of Unequal = compares unequal
+token_of Below = compares below
+token_of AtMost = compares at_most
+token_of Above = compares above
+token_of AtLeast = compares at_least
+token_of And = ands
+token_of Or = ors
+token_of Not = nots
+
+abbrev pub operator_of : Compare → Operator
+operator_of equal = Equal
+operator_of unequal = Unequal
+operator_of below = Below
+operator_of at_most = AtMost
+operator_of above = Above
+operator_of at_least = AtLeast

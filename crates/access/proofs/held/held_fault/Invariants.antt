@@ -1,11 +1,10 @@
--- The loop has counted the SIDs before `at`. Assumes nothing.
-use Prim.Native.Nat.{◌-◌}
+-- The loop has counted the SIDs that are gone past. Assumes nothing.
 use lib.ListN.{length}
 use Rattle.access.proofs.Holds.{Counted}
 use Rattle.access.proofs.held.held_fault.Given as goal
 
-abbrev pub invariant-loop-at : goal.invariant-loop-at
-invariant-loop-at l = Counted l.held l.at l.count
+abbrev pub invariant-loop-rest : goal.invariant-loop-rest
+invariant-loop-rest l = Counted l.held l.rest l.count
 
-abbrev pub decreases-loop-at : goal.decreases-loop-at
-decreases-loop-at l = length l.held - l.at
+abbrev pub decreases-loop-rest : goal.decreases-loop-rest
+decreases-loop-rest l = length l.rest

@@ -1,19 +1,29 @@
--- A part from the list's start up to its end is what is taken; of nothing, nothing. Assumes nothing.
-use mathlib.Core.Path.{sym, ap, ◌∙◌}
-use Rattle.list.specs.declared.lists.Reading.{Reading}
+-- What is taken is the list up to its end; of nothing, nothing. Assumes nothing.
+use mathlib.Core.Path.{◌≡◌, sym, ap, ◌∙◌}
+use lib.Seq.{length-take-le}
+use Rattle.std.specs.Prelude.{Result, Ok}
+use Rattle.refusal.specs.declared.Fault.{Fault}
+use Rattle.list.specs.Entry.{access}
+use Rattle.list.specs.List.{check_of}
+use Rattle.list.specs.declared.readings.Read.{Read}
 use Rattle.list.proofs.Answers.{checked}
-use Rattle.octets.proofs.Places.{part-first}
 use Rattle.access.specs.Walk.{walked_by}
+use Rattle.access.proofs.Walks.{end-inside}
 use Rattle.access.proofs.steps.walked.Goals as goal
+use Rattle.access.proofs.steps.walked.Goals.{In-Ok}
 
-pub returns-in-Done : goal.returns-in-Done
-unfolding walked_by
-returns-in-Done c =
-    let s = c.args.list.now in
-    c.part_of.ensures ∙ part-first _ s ∙ ap (λ (r : Reading). walked_by r s) (sym c.in-Done.is ∙ checked _ s c.check.ensures)
+reads : (c : In-Ok) → check_of access c.args.list.now ≡ Ok c.in-Ok.read
+reads c = sym (checked _ c.args.list.now c.check.ensures) ∙ c.in-Ok.is
 
-pub returns-in-Refused : goal.returns-in-Refused
+pub slice_bounds-result-end : goal.slice_bounds-result-end
+slice_bounds-result-end c =
+    sym (length-take-le c.in-Ok.read.end c.args.list.now (end-inside _ _ _ _ (reads (goal.at.slice_bounds-result-end c).In-Ok)))
+
+pub returns-in-Ok : goal.returns-in-Ok
 unfolding walked_by
-returns-in-Refused c =
-    let s = c.args.list.now in
-    c.part_of-in-Refused.ensures ∙ part-first 0 s ∙ ap (λ (r : Reading). walked_by r s) (sym c.in-Refused.is ∙ checked _ s c.check.ensures)
+returns-in-Ok c = ap (λ (r : Result Read Fault). walked_by r c.args.list.now) (sym (reads (goal.at.returns-in-Ok c).In-Ok))
+
+pub returns-in-Err : goal.returns-in-Err
+unfolding walked_by
+returns-in-Err c =
+    ap (λ (r : Result Read Fault). walked_by r c.args.list.now) (sym c.in-Err.is ∙ checked _ c.args.list.now c.check.ensures)

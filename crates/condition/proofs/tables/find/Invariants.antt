@@ -1,11 +1,11 @@
--- The loop has found no record with that name before `at`. Assumes nothing.
-use Prim.Native.Nat.{◌-◌}
+-- The name is found in the rest as in all. Assumes nothing.
+use mathlib.Core.Path.{◌≡◌}
 use lib.ListN.{length}
-use Rattle.condition.proofs.Records.{Sought}
+use Rattle.condition.specs.Table.{attributes_of, value_in}
 use Rattle.condition.proofs.tables.find.Given as goal
 
-abbrev pub invariant-loop-at : goal.invariant-loop-at
-invariant-loop-at l = Sought l.table l.name l.from l.at
+abbrev pub invariant-loop-long : goal.invariant-loop-long
+invariant-loop-long l = value_in (attributes_of l.table) l.name ≡ value_in (attributes_of l.rest) l.name
 
-abbrev pub decreases-loop-at : goal.decreases-loop-at
-decreases-loop-at l = length l.table - l.at
+abbrev pub decreases-loop-long : goal.decreases-loop-long
+decreases-loop-long l = length l.rest

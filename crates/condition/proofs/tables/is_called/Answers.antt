@@ -1,20 +1,20 @@
 -- Another length, or another byte there, says that the bytes differ; else they are compared. Assumes nothing.
-use native.Mathlib.Omega.{arith}
-use mathlib.Core.Path.{sym}
-use Prim.Native.Nat.{◌-◌}
-use lib.ListN.{take, drop, length-drop}
-use lib.Seq.{length-take-le}
-use Rattle.octets.proofs.Same.{same_length, other_byte}
+use mathlib.Core.Path.{sym, ap, ◌∙◌}
+use mathlib.Core.List.{List}
+use Prim.Native.Nat.{ℕ, ◌-◌}
+use lib.ListN.{length, get_or}
+use borrow.Author.Tests.{eqb-false}
+use Rattle.octets.proofs.Same.{same-no, same_length}
 use Rattle.condition.proofs.tables.is_called.Goals as goal
+use Rattle.condition.proofs.tables.is_called.Goals.{then-named-name, else-named-name}
 
-pub returns-then-name-end : goal.returns-then-name-end
-returns-then-name-end c =
-    let a = c.args in
-    let b = drop a.at a.table.now in
-    let l = length-take-le (a.end - a.at) b (omega (arith, length-drop a.at a.table.now, c.requires)) in
-    sym (same_length (take (a.end - a.at) b) a.name.now (λ e. c.if-name-end.true (omega (arith, l, e))))
-
-pub returns-then-table-end : goal.returns-then-table-end
-returns-then-table-end c =
-    let a = c.args in
-    sym (other_byte 2 a.name.now a.table.now a.at a.end (omega arith) c.requires.0 c.requires.1 c.if-table-end.true)
+pub returns-else-named-name-2 : goal.returns-else-named-name-2
+returns-else-named-name-2 c =
+    let n = c.args.named.now in
+    let m = c.args.name.now in
+    elim c.if-named-name.branch [
+      | then-named-name w ↦
+          c.if-named-name-2.false
+          ∙ sym (same-no n m (λ e. eqb-false _ _ (sym w.value-is ∙ c.if-named-name-2.false) (ap (λ (b : List ℕ). get_or b (length n - 2) 0) e)))
+      | else-named-name w ↦ c.if-named-name-2.false ∙ sym (same_length n m w.if-named-name.false)
+    ]

@@ -1,11 +1,8 @@
--- The records before `at` are well made, with names that stand in no later one. Assumes nothing.
+-- The rest is well made as all is. Assumes nothing.
+use mathlib.Core.Path.{◌≡◌}
 use Prim.Native.Nat.{◌-◌}
-use lib.ListN.{length}
-use Rattle.condition.proofs.Records.{Made}
+use Rattle.condition.specs.Table.{well_made}
 use Rattle.condition.proofs.tables.well_made.Given as goal
 
-abbrev pub invariant-loop-at : goal.invariant-loop-at
-invariant-loop-at l = Made l.table l.at l.left
-
-abbrev pub decreases-loop-at : goal.decreases-loop-at
-decreases-loop-at l = length l.table - l.at
+abbrev pub invariant-loop : goal.invariant-loop
+invariant-loop l = well_made 32 l.table ≡ well_made (32 - l.counter) l.rest

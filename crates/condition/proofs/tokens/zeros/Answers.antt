@@ -1,38 +1,22 @@
--- Up to `i` there are zeros. Assumes nothing.
-use native.Mathlib.Omega.{arith}
-use native.Mathlib.Numerals.{add-one}
-use mathlib.Core.Path.{◌≡◌, refl, sym, ◌∙◌}
-use mathlib.Core.Bool.{false}
-use mathlib.Core.List.{List}
-use Prim.Native.Nat.{ℕ, ◌+◌, ◌<◌}
-use lib.ListN.{length, get_or, drop, drop_of_length-le}
-use lib.Seq.{drop-cons}
-use borrow.Author.Tests.{eq-eqb, ne_eqb}
+-- Each byte is tested. Assumes nothing.
+use mathlib.Core.Path.{◌≡◌, refl, ap, ◌∙◌}
+use mathlib.Core.Bool.{Bool, ◌&&◌}
+use mathlib.Core.List.{List, [], ◌∷◌}
+use Prim.Native.Nat.{ℕ}
+use lib.Dec.{eqb}
+use Rattle.std.proofs.Common.{rules, tests}
+use Rattle.std.specs.List.{list_all}
+use Rattle.std.proofs.lemmas.Iterator.{YieldsList-from_slice}
+use Rattle.std.proofs.lemmas.Iterator.Search.{all_from_yields_List}
 use Rattle.condition.specs.Kind.{zeros}
 use Rattle.condition.proofs.tokens.zeros.Goals as goal
 
--- one byte more
-more : (s : List ℕ) (i : ℕ) → i < length s → get_or s i 0 ≡ 0 → zeros (drop i s) ≡ zeros (drop (i + 1) s)
+all-zeros : (s : List ℕ) → list_all (λ b. eqb b 0) s ≡ zeros s
 unfolding zeros
-more s i h e = rw (add-one, drop-cons s i 0 h, eq-eqb (get_or s i 0) 0 e)
-
-other : (s : List ℕ) (i : ℕ) → i < length s → (get_or s i 0 ≡ 0 → ⊥) → zeros (drop i s) ≡ false
-unfolding zeros
-other s i h e = rw (drop-cons s i 0 h, ne_eqb (get_or s i 0) 0 e)
-
-pub loop-i-init : goal.loop-i-init
-loop-i-init c = (omega arith, refl)
-
-pub returns-then-s-i-ne0 : goal.returns-then-s-i-ne0
-returns-then-s-i-ne0 c =
-    sym (c.loop-i.invariant.1 ∙ other c.args.s.now c.loop-i.i (omega arith) c.if-s-i-ne0.true)
-
-pub loop-i-preserved : goal.loop-i-preserved
-loop-i-preserved c =
-    (omega arith, c.loop-i.invariant.1 ∙ more c.args.s.now c.loop-i.i (omega arith) c.if-s-i-ne0.false)
+all-zeros [] = refl
+all-zeros (b ∷ s) = ap (λ (z : Bool). eqb b 0 && z) (all-zeros s)
 
 pub returns : goal.returns
-unfolding zeros
 returns c =
     let s = c.args.s.now in
-    sym (c.loop-i.invariant.1 ∙ rw (drop_of_length-le s {i = c.loop-i.i} (omega arith)))
+    all_from_yields_List (λ b. eqb b 0) _ _ _ c.all.ensures.ran (YieldsList-from_slice s cc) (λ x b q k. search (rules, tests)) ∙ all-zeros s

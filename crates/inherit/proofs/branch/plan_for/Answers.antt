@@ -1,48 +1,41 @@
 -- By the table. Assumes nothing.
-use mathlib.Core.Path.{◌≡◌}
-use mathlib.Core.Bool.{true, false}
-use borrow.Author.Tests.{not-true, not-false}
-use Rattle.inherit.specs.Inner.Plan.{plan_of}
+use mathlib.Core.Path.{◌≡◌, refl, sym, ap, ◌∙◌}
+use mathlib.Core.Bool.{Bool, true, false, not}
+use lib.Dec.{eqb}
+use denote.Enum.Bare.{sameb}
+use Rattle.std.proofs.Common.{Some}
+use Rattle.inherit.specs.declared.rules.Rule.{Rule}
+use Rattle.inherit.specs.declared.rules.Rule.TheVariants.{Printed, Mended}
+use Rattle.inherit.specs.contracts.rules.Rule.{the_type}
+use Rattle.inherit.specs.Inner.Rules.{number_by}
+use Rattle.inherit.specs.Inner.Plan.{merged_of, plan_of}
 use Rattle.inherit.proofs.branch.plan_for.Goals as goal
+use Rattle.inherit.proofs.branch.plan_for.Goals.{else-heritable-via-then-heritable+then-creator+else-not-s, else-heritable-via-then-heritable+else-creator, else-heritable-via-else-heritable}
 
-pub returns-then-s : goal.returns-then-s
-unfolding plan_of
-returns-then-s c =
-    let a = c.args in
-    let h : a.heritable ≡ false = c.if-not-heritable.true in
-    let k : a.s.creator ≡ true = c.if-s.true in
-    rw (h, k)
-
-pub returns-then-not-heritable : goal.returns-then-not-heritable
-unfolding plan_of
-returns-then-not-heritable c =
-    let a = c.args in
-    let h : a.heritable ≡ false = c.if-not-heritable.true in
-    let k : a.s.creator ≡ false = c.if-s.false in
-    rw (h, k)
+-- own entries stay by the rule that mends
+own-by : (r : Rule) → sameb the_type r Mended ≡ not (eqb (number_by r) 1)
+own-by Printed = refl
+own-by Mended = refl
 
 pub returns-then-not-s : goal.returns-then-not-s
 unfolding plan_of
 returns-then-not-s c =
-    let a = c.args in
-    let h : a.heritable ≡ true = c.if-not-heritable.false in
-    let k : a.s.creator ≡ false = not-true _ c.if-not-s.true in
-    rw (h, k)
+    rw (c.if-heritable.true, c.if-creator.true, c.if-not-s.true)
+    (ap Some (c.merged.ensures ∙ ap (λ (own : Bool). merged_of own c.args.s.auto c.args.s.protect) (c.eq.ensures ∙ own-by c.args.rule)))
 
-pub returns-then-s-2 : goal.returns-then-s-2
+pub returns-then-heritable-2 : goal.returns-then-heritable-2
 unfolding plan_of
-returns-then-s-2 c =
-    let a = c.args in
-    let h : a.heritable ≡ true = c.if-not-heritable.false in
-    let k : a.s.creator ≡ true = not-false _ c.if-not-s.false in
-    let d : a.s.defaulted ≡ true = c.if-s-2.true in
-    rw (h, k, d)
+returns-then-heritable-2 c =
+    elim c.else-heritable.branch [
+      | else-heritable-via-then-heritable+then-creator+else-not-s w ↦ rw (w.if-heritable.true, w.if-creator.true, w.if-not-s.false)
+      | else-heritable-via-then-heritable+else-creator w ↦ rw (w.if-heritable.true, w.if-creator.false)
+      | else-heritable-via-else-heritable w ↦ let z : true ≡ false = sym c.if-heritable-2.true ∙ w.if-heritable.false in cc
+    ]
 
-pub returns : goal.returns
+pub returns-then-creator-2 : goal.returns-then-creator-2
 unfolding plan_of
-returns c =
-    let a = c.args in
-    let h : a.heritable ≡ true = c.if-not-heritable.false in
-    let k : a.s.creator ≡ true = not-false _ c.if-not-s.false in
-    let d : a.s.defaulted ≡ false = c.if-s-2.false in
-    rw (h, k, d) c.merged.ensures
+returns-then-creator-2 c = rw (c.if-heritable-2.false, c.if-creator-2.true)
+
+pub returns-else-creator-2 : goal.returns-else-creator-2
+unfolding plan_of
+returns-else-creator-2 c = rw (c.if-heritable-2.false, c.if-creator-2.false) c.then_some.ensures

@@ -1,17 +1,20 @@
 -- One placeholder, the other, or neither. Assumes nothing.
-use mathlib.Core.Path.{sym, ◌∙◌}
-use borrow.Author.Tests.{eq-eqb, ne_eqb}
+use mathlib.Core.Path.{sym, ap, ◌∙◌}
+use Rattle.std.proofs.Common.{Some}
+use Rattle.list.proofs.Sids.{neither-in, owner-in, group-in}
 use Rattle.inherit.specs.Last.{in_place}
 use Rattle.inherit.proofs.last.in_place.Goals as goal
 
-pub returns-then-which-eq1 : goal.returns-then-which-eq1
+pub returns-in-Some-Owner : goal.returns-in-Some-Owner
 unfolding in_place
-returns-then-which-eq1 c = simp (eq-eqb _ 1 (sym c.placeholder_of-which.ensures ∙ c.if-which-eq1.true))
+returns-in-Some-Owner c =
+    rw (owner-in c.args.sid.now (sym c.placeholder_of.ensures ∙ c.in-Some-Owner.is ∙ ap Some c.in-Some-Owner.field-0-is))
 
-pub returns-then-which-eq2 : goal.returns-then-which-eq2
+pub returns-in-Some-Group : goal.returns-in-Some-Group
 unfolding in_place
-returns-then-which-eq2 c = simp (← c.placeholder_of-which.ensures, ne_eqb _ 1 c.if-which-eq1.false, eq-eqb _ 2 c.if-which-eq2.true)
+returns-in-Some-Group c =
+    rw (group-in c.args.sid.now (sym c.placeholder_of.ensures ∙ c.in-Some-Group.is ∙ ap Some c.in-Some-Group.field-0-is))
 
-pub returns : goal.returns
+pub returns-in-None : goal.returns-in-None
 unfolding in_place
-returns c = simp (← c.placeholder_of-which.ensures, ne_eqb _ 1 c.if-which-eq1.false, ne_eqb _ 2 c.if-which-eq2.false)
+returns-in-None c = rw (neither-in c.args.sid.now (sym c.placeholder_of.ensures ∙ c.in-None.is))

@@ -15,11 +15,11 @@ regroup a b c d = simp append_assoc
 
 pub returns : goal.returns
 returns c =
-    let a = c.args in
+    let a = c.args.p.now in
     let mid = a.middle.now in
     let sid = a.sid.now in
     let tail = a.tail.now in
-    let d = a.out.now in
+    let d = c.args.out.now in
     let hd = head_part a.kind a.flags (8 + length mid + length sid + length tail) a.mask in
     let k : length hd ≡ 8 = length-head a.kind a.flags (8 + length mid + length sid + length tail) a.mask in
     let one = tail-put hd mid d c.put_head.new.out c.put.new.to 8 c.put_head.ensures c.put.ensures k (omega (arith, c.requires)) in

@@ -1,74 +1,52 @@
 -- An entry that is taken or not, in the fields that a look found. Assumes nothing.
 use native.Mathlib.Omega.{arith}
-use mathlib.Core.Path.{◌≡◌, sym, ap, ◌∙◌}
-use mathlib.Core.Bool.{true}
+use mathlib.Core.Path.{◌≡◌, refl, sym, ap, ◌∙◌}
+use mathlib.Core.Bool.{Bool, true, false}
 use mathlib.Core.List.{List}
 use Prim.Native.Nat.{ℕ}
-use borrow.Author.Tests.{not-true, not-false}
 use lib.ListN.{length}
+use Rattle.std.proofs.Common.{Option, Some, None}
+use Rattle.std.specs.Bool.{then_some}
 use Rattle.octets.specs.Bytes.{front}
-use Rattle.list.specs.Entry.{access, size_of}
-use Rattle.list.specs.declared.looks.Look.{Look}
-use Rattle.list.proofs.Remade.{bounds}
-use Rattle.inherit.specs.Asked.{Given}
-use Rattle.inherit.specs.Last.{last_mask}
-use Rattle.inherit.specs.Inner.Emit.{takes_by, given_by}
+use Rattle.inherit.specs.Inner.Emit.{given_by}
 use Rattle.inherit.proofs.One.{writes-none, length-one, writes_one}
-use Rattle.inherit.proofs.passes.write_one.Tie as tie
-use Rattle.inherit.proofs.passes.write_one.Lts as lts
-use Rattle.inherit.proofs.passes.write_one.Reads as lts-reads
 use Rattle.inherit.proofs.passes.write_one.Goals as goal
 
-abbrev After-pick : Type 0
-After-pick = lts.After-pick tie.the-claims lts-reads.Pre lts-reads.Post tie.handed_clauses
+-- what is picked tells whether it is taken
+picked-none : (b : Bool) (x : ℕ) (o : Option ℕ) → o ≡ then_some b x → o ≡ None → b ≡ false
+picked-none true x o p q = let z = sym p ∙ q in cc
+picked-none false x o p q = refl
 
-abbrev Start : Type 0
-Start = lts.Start tie.the-claims lts-reads.Pre lts-reads.Post tie.handed_clauses
+record Picked (b : Bool) (x f : ℕ) : Type 0 where
+  taken : b ≡ true
+  flags : f ≡ x
 
-abbrev Else1 : Type 0
-Else1 = lts.Else1 tie.the-claims lts-reads.Pre lts-reads.Post tie.handed_clauses
+picked-some : (b : Bool) (x f : ℕ) (o : Option ℕ) → o ≡ then_some b x → o ≡ Some f → Picked b x f
+picked-some true x f o p q = record { taken = refl; flags = let z = sym q ∙ p in cc }
+picked-some false x f o p q = let z = sym p ∙ q in cc
 
--- once it is known whether the entry is taken
-module _ (c : After-pick) where
-  abbrev start : Start
-  start = c.before.before.before.before.before.before
+pub returns-in_default : goal.returns-in_default
+returns-in_default c =
+    let a = c.args in
+    let e = a.entry.now in
+    let n = writes-none 4 e.bytes.now e.whole.sound (given_by a.terms.now) a.pass (picked-none _ _ _ c.pick.ensures c.in_default.is) in
+    (sym (ap length n), sym (ap (λ (w : List ℕ). front w a.out.now) n))
 
-  abbrev given : Given
-  given = given_by start.args.terms start.args.types start.args.owner.now start.args.group.now
-
-  abbrev bytes : List ℕ
-  bytes = start.args.t.now
-
-  size-here : c.look_at-look.result.size ≡ size_of bytes
-  size-here = ap (λ (k : Look). k.size) c.look_at-look.ensures
-
-  taken_here : takes_by given start.args.pass bytes ≡ c.pick-picked.result.taken
-  taken_here = sym (c.pick-picked.ensures.0 start.args.owner.now start.args.group.now)
-
--- it is
-taken : (c : Else1) → takes_by (given c.before.before) (start c.before.before).args.pass (bytes c.before.before) ≡ true
-taken c = taken_here c.before.before ∙ not-false _ c.if-not-picked.false
-
-pub returns-then-not-picked : goal.returns-then-not-picked
-returns-then-not-picked c =
-    let s = start c.before.before.before in
-    let a = s.args in
-    let n = writes-none a.rev (bytes c.before.before.before) s.requires.sound.0 (given c.before.before.before) a.pass (taken_here c.before.before.before ∙ not-true _ c.if-not-picked.true) in
-    (size-here c.before.before.before, sym (ap length n), sym (ap (λ (w : List ℕ). front w a.out.now) n))
-
-pub put_copy-bytes-requires : goal.put_copy-bytes-requires
-put_copy-bytes-requires c =
-    let s = start c.before.before.before.before.before.before in
-    let a = s.args in
-    let n = length-one a.rev (bytes c.before.before.before.before.before.before) s.requires.sound.0 (given c.before.before.before.before.before.before) a.pass (taken c.before.before.before.before) in
-    (bounds access a.rev (bytes c.before.before.before.before.before.before) s.requires.sound.0, c.look_at-look.ensures, omega (arith, s.requires.t_in_bounds, n))
+pub put_copy-requires : goal.put_copy-requires
+put_copy-requires c =
+    let a = c.args in
+    let e = a.entry.now in
+    let p = picked-some _ _ _ _ c.pick.ensures c.in-Some.is in
+    let n = length-one 4 e.bytes.now e.whole.sound (given_by a.terms.now) a.pass p.taken in
+    omega (arith, c.requires, n)
 
 pub returns : goal.returns
 returns c =
-    let s = start c.before.before.before.before.before.before.before.before.before in
-    let a = s.args in
-    let n = length-one a.rev (bytes c.before.before.before.before.before.before.before.before.before) s.requires.sound.0 (given c.before.before.before.before.before.before.before.before.before) a.pass (taken c.before.before.before.before.before.before.before) in
-    let o = writes_one a.rev (bytes c.before.before.before.before.before.before.before.before.before) s.requires.sound.0 (given c.before.before.before.before.before.before.before.before.before) a.pass (taken c.before.before.before.before.before.before.before) in
-    let mask = c.last_mask-mask.ensures ∙ ap (λ (x : Look). last_mask a.terms.rule a.terms.mapping x.mask) c.look_at-look.ensures in
-    let z = rw (c.pick-picked.ensures.1, mask) at c.put_copy-bytes.ensures.1 in
-    (size-here c.before.before.before.before.before.before.before.before.before, c.put_copy-bytes.ensures.0 ∙ sym n, z ∙ ap (λ (x : List ℕ). front x a.out.now) (sym o))
+    let a = c.args in
+    let e = a.entry.now in
+    let t = a.terms.now in
+    let p = picked-some _ _ _ _ c.pick.ensures c.in-Some.is in
+    let n = length-one 4 e.bytes.now e.whole.sound (given_by t) a.pass p.taken in
+    let o = writes_one 4 e.bytes.now e.whole.sound (given_by t) a.pass p.taken in
+    let z = rw p.flags at c.put_copy.ensures.1 in
+    (c.put_copy.ensures.0 ∙ sym n, z ∙ ap (λ (x : List ℕ). front x a.out.now) (sym o))

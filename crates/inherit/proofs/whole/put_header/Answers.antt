@@ -1,37 +1,17 @@
--- Eight stores in a row. Assumes nothing.
-use native.Mathlib.Omega.{arith}
-use mathlib.Core.Path.{ap, sym, ◌∙◌}
-use mathlib.Core.List.{List, [], ◌∷◌}
-use Prim.Native.Nat.{ℕ, ◌/◌, ◌%◌}
-use lib.ListN.{length-set}
-use lib.Seq.{sets-eq}
-use Rattle.octets.specs.Bytes.{front}
-use Rattle.list.proofs.Parts.{head-is}
+-- Two bytes, two numbers and two zeros. Assumes nothing.
+use mathlib.Core.Path.{ap, ◌∙◌}
+use mathlib.Core.List.{List}
+use Prim.Native.Nat.{ℕ}
+use lib.ListN.{take}
+use Rattle.list.specs.List.{head_bytes}
+use Rattle.inherit.proofs.Heads.{low-two, size-count}
 use Rattle.inherit.proofs.whole.put_header.Goals as goal
 
-pub bounds-out-1 : goal.bounds-out-1
-bounds-out-1 c = simp length-set (omega arith)
-
-pub bounds-out-2 : goal.bounds-out-2
-bounds-out-2 c = simp length-set (omega arith)
-
-pub bounds-out-3 : goal.bounds-out-3
-bounds-out-3 c = simp length-set (omega arith)
-
-pub bounds-out-4 : goal.bounds-out-4
-bounds-out-4 c = simp length-set (omega arith)
-
-pub bounds-out-5 : goal.bounds-out-5
-bounds-out-5 c = simp length-set (omega arith)
-
-pub bounds-out-6 : goal.bounds-out-6
-bounds-out-6 c = simp length-set (omega arith)
-
-pub bounds-out-7 : goal.bounds-out-7
-bounds-out-7 c = simp length-set (omega arith)
-
 pub returns : goal.returns
+unfolding head_bytes
 returns c =
     let a = c.args in
-    sets-eq (a.rev ∷ 0 ∷ a.size % 256 ∷ a.size / 256 % 256 ∷ a.count % 256 ∷ a.count / 256 % 256 ∷ 0 ∷ 0 ∷ []) a.out.now 0 c.requires
-    ∙ ap (λ (w : List ℕ). front w a.out.now) (sym (head-is a.rev a.size a.count))
+    size-count a.rev 0 a.size a.count _ _ a.out.now c.requires
+    (c.copy_from_slice.ensures.after ∙ ap (λ (x : List ℕ). take 2 x) c.to_le_bytes.ensures ∙ low-two a.size)
+    (c.copy_from_slice-2.ensures.after ∙ ap (λ (x : List ℕ). take 2 x) c.to_le_bytes-2.ensures ∙ low-two a.count)
+    _ c.copy_from_slice-3.ensures.after

@@ -1,15 +1,16 @@
--- A short slice is no SID; of a longer one only the length is left to test. Assumes nothing.
-use native.Mathlib.Omega.{arith}
-use mathlib.Core.Path.{sym, ap, ◌∙◌}
+-- Exactly one SID, by what its length is said to be. Assumes nothing.
+use mathlib.Core.Path.{ap, ◌∙◌}
+use Prim.Native.Nat.{ℕ}
 use lib.ListN.{length}
 use lib.Dec.{eqb}
-use Rattle.list.proofs.Sids.{short-sid, long-sid}
+use Rattle.std.specs.Prelude.{Option, Some}
+use Rattle.std.specs.Option.{option_eq}
+use Rattle.list.specs.Identity.{is_sid}
+use Rattle.list.proofs.Sids.{sid-eq}
 use Rattle.list.proofs.identities.is_sid.Goals as goal
 
-pub returns-then-b-lt8 : goal.returns-then-b-lt8
-returns-then-b-lt8 c = sym (short-sid c.args.b.now (omega arith))
-
 pub returns : goal.returns
+unfolding is_sid
 returns c =
     let s = c.args.b.now in
-    ap (eqb (length s)) c.sid_at.ensures ∙ sym (long-sid s (omega arith))
+    c.eq.ensures ∙ ap (λ (o : Option ℕ). option_eq eqb o (Some (length s))) c.sid_at.ensures ∙ sid-eq _ (length s)

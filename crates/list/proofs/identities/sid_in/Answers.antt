@@ -1,26 +1,33 @@
--- A SID that is cut, or for which there are no eight bytes, is none. Assumes nothing.
+-- Where none begins none lies whole, nor one that is cut. Assumes nothing.
 use native.Mathlib.Omega.{arith}
 use mathlib.Core.Path.{sym, ◌∙◌}
 use lib.ListN.{drop, length-drop}
-use Rattle.list.proofs.Sids.{whole-cut, whole-there, whole-short}
+use Rattle.octets.proofs.Absent.{unless_zero-none, unless_zero-some, some-unless_zero, none-unless_zero}
+use Rattle.list.specs.Identity.{length_of_sid}
+use Rattle.list.proofs.Sids.{sid-some, whole-cut, whole-there}
 use Rattle.list.proofs.identities.sid_in.Goals as goal
 
-pub returns-then-s-lt8 : goal.returns-then-s-lt8
-returns-then-s-lt8 c =
-    let a = c.args in
-    sym (whole-short (drop a.at a.s.now) (omega (arith, length-drop a.at a.s.now)))
+pub returns-in_err-len : goal.returns-in_err-len
+returns-in_err-len c =
+    let d = drop c.args.at c.args.s.now in
+    let z = none-unless_zero (length_of_sid d) (sym c.sid_at.ensures ∙ c.in_err-len.was) in
+    c.from_residual.ensures ∙ sym (unless_zero-none _ (whole-there d (omega arith) ∙ z))
+
+pub overflow_sub-s : goal.overflow_sub-s
+overflow_sub-s c =
+    let d = drop c.args.at c.args.s.now in
+    let e = some-unless_zero (length_of_sid d) _ (sym c.sid_at.ensures ∙ c.in_ok-len.was) in
+    omega (arith, sid-some d (omega arith), length-drop c.args.at c.args.s.now)
 
 pub returns-then-s-at : goal.returns-then-s-at
 returns-then-s-at c =
-    let a = c.args in
-    sym (whole-short (drop a.at a.s.now) (omega (arith, length-drop a.at a.s.now)))
-
-pub returns-then-s-at-2 : goal.returns-then-s-at-2
-returns-then-s-at-2 c =
-    let a = c.args in
-    sym (whole-cut (drop a.at a.s.now) (omega (arith, c.sid_at-len.ensures, length-drop a.at a.s.now)))
+    let d = drop c.args.at c.args.s.now in
+    let e = some-unless_zero (length_of_sid d) _ (sym c.sid_at.ensures ∙ c.in_ok-len.was) in
+    sym (unless_zero-none _ (whole-cut d (omega (arith, length-drop c.args.at c.args.s.now))))
 
 pub returns : goal.returns
 returns c =
-    let a = c.args in
-    c.sid_at-len.ensures ∙ sym (whole-there (drop a.at a.s.now) (omega (arith, c.sid_at-len.ensures, length-drop a.at a.s.now)))
+    let d = drop c.args.at c.args.s.now in
+    let e = some-unless_zero (length_of_sid d) _ (sym c.sid_at.ensures ∙ c.in_ok-len.was) in
+    let h = sid-some d (omega arith) in
+    sym (rw (whole-there d (omega (arith, length-drop c.args.at c.args.s.now)), e.0) (unless_zero-some _ e.1))

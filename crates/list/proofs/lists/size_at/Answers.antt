@@ -1,25 +1,16 @@
 -- The two bytes behind type and flags, by the law of one byte and the rest, twice. Assumes nothing.
 use native.Mathlib.Omega.{arith}
-use Prim.Native.Nat.{◌+◌}
+use mathlib.Core.Path.{◌≡◌, ap}
+use Prim.Native.Nat.{ℕ, ◌+◌}
+use lib.ListN.{drop}
 use lib.Seq.{drop-drop}
+use Rattle.octets.specs.Bytes.{le}
 use Rattle.octets.proofs.Little.{le-at, le-one}
 use Rattle.list.proofs.lists.size_at.Goals as goal
 
-pub overflow_cast-result : goal.overflow_cast-result
-overflow_cast-result c = omega (arith, c.shared_slice_known-1.given (c.args.at + 2))
-
-pub overflow_cast-result-2 : goal.overflow_cast-result-2
-overflow_cast-result-2 c = omega (arith, c.shared_slice_known-2-1.given (c.args.at + 2 + 1))
-
-pub overflow_mul-result : goal.overflow_mul-result
-overflow_mul-result c = omega (arith, c.shared_slice_known-2-1.given (c.args.at + 2 + 1))
-
-pub overflow_add-result-2 : goal.overflow_add-result-2
-overflow_add-result-2 c =
-    let a = c.args in
-    omega (arith, c.shared_slice_known-2-1.given (a.at + 2), c.shared_slice_known-2-1.given (a.at + 2 + 1))
-
 pub returns : goal.returns
 returns c =
-    let a = c.args in
-    simp drop-drop (omega (arith, le-at 1 a.list.now (a.at + 2), le-one a.list.now (a.at + 2 + 1)))
+    let s = c.args.list.now in
+    let at = c.args.at in
+    let k : at + 2 + 1 ≡ at + 3 = omega arith in
+    simp drop-drop (omega (arith, c.from_le_bytes.ensures, le-at 1 s (at + 2), ap (λ (n : ℕ). le 1 (drop n s)) k, le-one s (at + 3)))

@@ -1,15 +1,14 @@
--- Both bytes are there, or the second one is not. Assumes nothing.
-use native.Mathlib.Omega.{arith}
-use Prim.Native.Nat.{◌+◌}
-use Rattle.octets.proofs.Little.{le-at, le-past}
+-- Both bytes, or at most one of them. Assumes nothing.
+use Rattle.std.proofs.Common.{◌+◌, arith, ◌∙◌, ap}
+use Rattle.std.specs.Int.{w16, from_le_bytes}
+use Rattle.octets.proofs.Little.{le-at, le-half, le-past}
 use Rattle.octets.proofs.numbers.half_in.Goals as goal
 
-pub half_at-requires : goal.half_at-requires
-half_at-requires c = omega (arith, c.holds.ensures.0 c.if-holds.true)
+pub returns-in-Some : goal.returns-in-Some
+returns-in-Some c = c.from_le_bytes.ensures ∙ (ap (from_le_bytes w16) c.in-Some.ensures.bytes ∙ le-half _)
 
-pub returns : goal.returns
-returns c =
-    let a = c.args in
-    let s = a.s.now in
-    let h = c.holds.ensures.1 c.if-holds.false in
-    omega (arith, c.byte_in.ensures, le-at 1 s a.at, le-past 1 s (a.at + 1) (omega arith))
+pub returns-in-None : goal.returns-in-None
+returns-in-None c =
+    let s = c.args.s.now in
+    let at = c.args.at in
+    omega (arith, c.in-None.ensures.bytes, c.byte_in.ensures, c.from.ensures, le-at 1 s at, le-past 1 s (at + 1) (omega (arith, c.in-None.ensures.bytes)))

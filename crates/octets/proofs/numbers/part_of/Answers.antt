@@ -3,7 +3,4 @@ use Rattle.octets.proofs.Places.{part-least}
 use Rattle.octets.proofs.numbers.part_of.Goals as goal
 
 pub returns : goal.returns
-returns c =
-    let a = c.args in
-    part-least a.s.now a.at a.n c.least-from.result c.least-long.result
-    c.least-from.ensures c.least-long.ensures
+returns c = part-least c.args.s.now c.args.at c.args.n c.min-from.result c.min.result c.min-from.ensures c.min.ensures

@@ -22,7 +22,7 @@ loop-i-preserved c =
       omega arith,
       c.loop-i.invariant.1
           ∙ next-same 1 c.loop-i.i x y (omega arith) (omega arith)
-          (λ j. (c.shared_slice_known-1.given j).fits) (λ j. (c.shared_slice_known-in-loop-i-1.given j).fits)
+          (λ j. (c.type_inv.a j).fits) (λ j. (c.type_inv.b j).fits)
           (le-one x c.loop-i.i ∙ c.if-a-i.false ∙ sym (le-one y c.loop-i.i)),
     )
 

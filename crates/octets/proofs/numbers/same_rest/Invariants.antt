@@ -7,6 +7,3 @@ use Rattle.octets.proofs.numbers.same_rest.Given as goal
 
 abbrev pub invariant-loop-i : goal.invariant-loop-i
 invariant-loop-i l = (l.i ≤ length l.a) × (same_bytes (drop l.at l.a) (drop l.at l.b) ≡ same_bytes (drop l.i l.a) (drop l.i l.b))
-
-abbrev pub decreases-loop-i : goal.decreases-loop-i
-decreases-loop-i l = length l.a - l.i

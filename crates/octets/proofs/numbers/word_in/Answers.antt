@@ -1,25 +1,20 @@
--- All four bytes are there; or the last one is not, and of the high half one byte is left; or nothing is left to read. Assumes nothing.
-use native.Mathlib.Omega.{arith}
-use mathlib.Core.Path.{sym, ap}
-use Prim.Native.Nat.{◌+◌}
-use lib.ListN.{drop}
+-- All four bytes; or the last one is not there, and of the high half at most one; or none. Assumes nothing.
+use Rattle.std.proofs.Common.{◌+◌, drop, arith, ◌∙◌, ap, sym}
+use Rattle.std.specs.Int.{w32, from_le_bytes}
 use lib.Seq.{drop-drop}
 use Rattle.octets.specs.Bytes.{le}
-use Rattle.octets.proofs.Little.{le-add, le-at, le-past}
+use Rattle.octets.proofs.Little.{le-add, le-at, le-past, le-word}
 use Rattle.octets.proofs.numbers.word_in.Goals as goal
 
-pub word_at-requires : goal.word_at-requires
-word_at-requires c = omega (arith, c.holds.ensures.0 c.if-holds.true)
+pub returns-in-Some : goal.returns-in-Some
+returns-in-Some c = c.from_le_bytes.ensures ∙ (ap (from_le_bytes w32) c.in-Some.ensures.bytes ∙ le-word _)
 
-pub returns-then-at-s : goal.returns-then-at-s
-returns-then-at-s c =
-    let a = c.args in
-    let s = a.s.now in
-    let n = c.holds.ensures.1 c.if-holds.false in
+pub returns-in-None : goal.returns-in-None
+returns-in-None c =
+    let s = c.args.s.now in
+    let at = c.args.at in
     omega
-    (arith, le-add 2 2 (drop a.at s), ap (le 2) (drop-drop 2 a.at s), le-at 1 s (a.at + 2), le-past 1 s (a.at + 2 + 1) (omega arith))
+    (arith, c.in-None.ensures.bytes, c.half_in.ensures, c.byte_in.ensures, c.from.ensures, c.from-in-None.ensures, le-add 2 2 (drop at s), ap (le 2) (drop-drop 2 at s), le-at 1 s (at + 2), le-past 1 s (at + 2 + 1) (omega (arith, c.in-None.ensures.bytes)))
 
-pub returns : goal.returns
-returns c =
-    let a = c.args in
-    sym (le-past 4 a.s.now a.at (omega arith))
+pub returns-in-None-2 : goal.returns-in-None-2
+returns-in-None-2 c = sym (le-past 4 c.args.s.now c.args.at (omega arith))

@@ -9,7 +9,7 @@ settle-requires c =
     c.step-u.ensures c.number_in-2.ensures.0
     c.part_of.ensures c.number_in-3.ensures.0 c.standing.ensures c.requires.r_nonzero.1 in
     let l = c.pop.auto.w in
-    (omega (arith, f.0), (omega (arith, f.0, l), (omega arith, omega (arith, f.1.0, f.1.1, l))))
+    (omega (arith, f.0), (omega (arith, f.0, l), omega (arith, f.1.0, f.1.1, l)))
 
 pub returns : goal.returns
 returns c =

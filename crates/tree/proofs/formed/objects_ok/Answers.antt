@@ -1,30 +1,39 @@
--- The first `i` objects are good. Assumes nothing.
+-- The library's `all`, in the definition's words. Assumes nothing.
 use native.Mathlib.Omega.{arith}
-use mathlib.Core.Path.{◌≡◌, refl, sym}
+use mathlib.Core.Path.{◌≡◌, refl, ap, ◌∙◌}
+use mathlib.Core.Bool.{Bool, true, false, ◌&&◌}
+use mathlib.Core.List.{List, [], ◌∷◌, ◌++◌}
+use Prim.Native.Nat.{ℕ, zero, suc, ◌+◌}
+use Rattle.std.proofs.Common.{rules, tests}
+use Rattle.std.specs.List.{list_all, range_with_len}
+use Rattle.std.proofs.lemmas.Iterator.{YieldsList-from_range}
+use Rattle.std.proofs.lemmas.Iterator.Search.{all_from_yields_List}
+use Rattle.std.proofs.lemmas.List.Folds.{list_all-append}
 use Rattle.tree.specs.General.{every}
-use Rattle.tree.proofs.Tested.{refused, passed, every_more, every-no}
+use Rattle.tree.specs.Formed.{object_ok}
 use Rattle.tree.proofs.formed.objects_ok.Goals as goal
 
-pub loop-i-init : goal.loop-i-init
+last : (a n : ℕ) → range_with_len a (suc n) ≡ range_with_len a n ++ ((a + n) ∷ [])
+last a zero = ap (λ (k : ℕ). k ∷ []) (omega arith)
+last a (suc n) = ap (λ (s : List ℕ). a ∷ s) (last (a + 1) n ∙ ap (λ (k : ℕ). range_with_len (a + 1) n ++ (k ∷ [])) (omega arith))
+
+both : (a b : Bool) → (a && (b && true)) ≡ (a && b)
+both true true = refl
+both true false = refl
+both false b = refl
+
+every-range : (p : ℕ → Bool) (n : ℕ) → list_all p (range_with_len 0 n) ≡ every p n
 unfolding every
-loop-i-init c = (omega arith, refl)
-
-pub object_ok-requires : goal.object_ok-requires
-object_ok-requires c = omega arith
-
-pub returns-then-not-object_ok : goal.returns-then-not-object_ok
-returns-then-not-object_ok c = sym (every-no _ _ _ c.loop-i-test.true (refused c.object_ok.ensures c.if-not-object_ok.true))
-
-pub overflow_add-i : goal.overflow_add-i
-overflow_add-i c = omega arith
-
-pub loop-i-smaller : goal.loop-i-smaller
-loop-i-smaller c = omega arith
-
-pub loop-i-preserved : goal.loop-i-preserved
-loop-i-preserved c = (omega arith, every_more _ _ c.loop-i.invariant.1 (passed c.object_ok.ensures c.if-not-object_ok.false))
+every-range p zero = refl
+every-range p (suc n) =
+    ap (list_all p) (last 0 n ∙ ap (λ (k : ℕ). range_with_len 0 n ++ (k ∷ [])) (omega arith))
+    ∙ list_all-append p (range_with_len 0 n) (n ∷ [])
+    ∙ both (list_all p (range_with_len 0 n)) (p n)
+    ∙ ap (λ (b : Bool). b && p n) (every-range p n)
 
 pub returns : goal.returns
 returns c =
-    let e : c.loop-i.i ≡ c.args.n = omega arith in
-    rw (← e) (sym c.loop-i.invariant.1)
+    let n = c.args.n in
+    let y = YieldsList-from_range 0 n n refl (omega arith) in
+    all_from_yields_List (object_ok c.args.r.now) _ _ c.all.result c.all.ensures.ran y (λ i b q k. search (rules, tests))
+    ∙ every-range (object_ok c.args.r.now) n

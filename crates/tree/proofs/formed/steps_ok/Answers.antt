@@ -3,7 +3,6 @@ use native.Mathlib.Omega.{arith}
 use mathlib.Core.Path.{◌≡◌, sym, ap, ◌∙◌}
 use mathlib.Core.List.{List}
 use Prim.Native.Nat.{ℕ}
-use native.Mathlib.Nat.{sub-zero}
 use Rattle.tree.specs.Room.{own_data, step}
 use Rattle.tree.specs.Formed.{step_ok, standing}
 use Rattle.tree.proofs.Tested.{refused, passed, steps-no, steps-more, steps_all, standing-most}
@@ -37,25 +36,10 @@ stand-here : (c : After-standing)
 stand-here c =
     c.standing-stand.ensures ∙ ap (λ (u : List ℕ). standing c.loop-j.stand u) c.step-u.ensures
 
-pub loop-j-init : goal.loop-j-init
-loop-j-init c = (omega arith, (omega arith, rw sub-zero))
-
-pub step-u-requires : goal.step-u-requires
-step-u-requires c = omega arith
-
-pub step_ok-requires : goal.step_ok-requires
-step_ok-requires c = omega arith
-
 pub returns-then-not-step_ok : goal.returns-then-not-step_ok
 returns-then-not-step_ok c =
     let l = c.loop-j in
     sym (l.invariant.1.1 ∙ steps-no _ _ _ _ _ c.loop-j-test.true (refused (step-here c.before.before) c.if-not-step_ok.true))
-
-pub overflow_add-j : goal.overflow_add-j
-overflow_add-j c = omega arith
-
-pub loop-j-smaller : goal.loop-j-smaller
-loop-j-smaller c = omega arith
 
 pub loop-j-preserved : goal.loop-j-preserved
 loop-j-preserved c =

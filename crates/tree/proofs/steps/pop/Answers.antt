@@ -1,7 +1,5 @@
 -- The area, then the steps but the latest one place back, then their number, by the law of Kept. Assumes nothing.
 use native.Mathlib.Omega.{arith}
-use mathlib.Core.Path.{◌∙◌}
-use lib.ListN.{length-set}
 use Rattle.tree.proofs.Kept.{most, gone-is}
 use Rattle.tree.proofs.steps.pop.Goals as goal
 
@@ -10,9 +8,6 @@ lay-requires c = omega (arith, most _ _ _ _ c.part_of.ensures)
 
 pub lay-requires-2 : goal.lay-requires-2
 lay-requires-2 c = omega (arith, most _ _ _ _ c.part_of-2.ensures)
-
-pub shape_of-w : goal.shape_of-w
-shape_of-w c = simp length-set (c.lay-2.auto.w ∙ c.lay.auto.w)
 
 pub returns : goal.returns
 returns c =

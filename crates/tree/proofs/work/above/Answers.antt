@@ -1,4 +1,4 @@
--- The parent's slot where its number is smaller, else nothing. Assumes nothing.
+-- The parent's list where its number is smaller, else none. Assumes nothing.
 use native.Mathlib.Omega.{arith}
 use mathlib.Core.Path.{ap, ◌∙◌}
 use mathlib.Core.List.{List}
@@ -11,11 +11,12 @@ pub returns-then-p-i : goal.returns-then-p-i
 returns-then-p-i c =
     let n = c.number_in-p in
     let a = c.args in
-    above-slot a.i n.result a.r.now c.slot.result.now
+    c.list_in.ensures
+    ∙ above-slot a.i n.result a.r.now c.slot.result.now
     (n.ensures.0 ∙ ap (λ (x : List ℕ). get_or x 0 0) c.own.ensures) (omega arith) (omega arith) c.slot.ensures
 
-pub returns : goal.returns
-returns c =
+pub returns-else-p-i : goal.returns-else-p-i
+returns-else-p-i c =
     let n = c.number_in-p in
     let a = c.args in
     above-none a.i n.result a.r.now

@@ -1,18 +1,8 @@
 -- The length, the identity, and zeros up to the end of the field. Assumes nothing.
 use native.Mathlib.Omega.{arith}
 use mathlib.Core.Path.{◌∙◌}
-use lib.ListN.{length-set}
 use Rattle.tree.proofs.Lays.{id-laid}
 use Rattle.tree.proofs.writes.lay_id.Goals as goal
-
-pub lay-requires : goal.lay-requires
-lay-requires c = simp length-set (omega arith)
-
-pub zero-requires : goal.zero-requires
-zero-requires c = omega (arith, simp length-set at c.lay.auto.w)
-
-pub shape_of-w : goal.shape_of-w
-shape_of-w c = c.zero.auto.w ∙ c.lay.auto.w ∙ simp length-set
 
 pub returns : goal.returns
 returns c =

@@ -6,11 +6,8 @@ use Rattle.tree.proofs.writes.lay_slot.Goals as goal
 pub lay_list-requires : goal.lay_list-requires
 lay_list-requires c =
     let p = c.requires in
-    (short-present _ (rw c.if-has.true at p.0), p.1)
+    (short-present _ (rw c.in-Some.is at p.0), p.1)
 
-pub returns-then-has : goal.returns-then-has
-returns-then-has c = rw c.if-has.true c.lay_list.ensures
-
-pub returns : goal.returns
+pub returns-in-None : goal.returns-in-None
 unfolding slot_for
-returns c = rw c.if-has.false c.zero.ensures
+returns-in-None c = rw c.in-None.is c.zero.ensures

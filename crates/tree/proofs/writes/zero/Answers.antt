@@ -1,17 +1,13 @@
--- The loop writes zeros: `i` of them stand at the place. Assumes nothing.
-use borrow.Author.Rules.{rules}
+-- Zeros in the place of the bytes there. Assumes nothing.
 use native.Mathlib.Omega.{arith}
-use mathlib.Core.Path.{◌≡◌, refl, sym}
-use lib.ListN.{length-set}
-use Rattle.octets.proofs.Places.{put-nil}
-use Rattle.tree.proofs.Lays.{zero_more}
+use mathlib.Core.Path.{◌≡◌, ap, ◌∙◌}
+use Prim.Native.Nat.{ℕ, ◌+◌, ◌-◌}
+use lib.ListN.{length, take, drop, replicate, length-take, length-drop, length-replicate}
+use Rattle.tree.proofs.Lays.{laid-at}
 use Rattle.tree.proofs.writes.zero.Goals as goal
 
-pub loop-i-init : goal.loop-i-init
-loop-i-init c = (search rules, refl, sym (put-nil _ _))
-
-pub loop-i-preserved : goal.loop-i-preserved
-loop-i-preserved c = (omega arith, simp length-set (omega arith), zero_more _ _ _ _ c.loop-i.invariant.2 (omega arith))
-
 pub returns : goal.returns
-returns c = let e : c.loop-i.i ≡ c.args.n = omega arith in rw (← e) c.loop-i.invariant.2
+returns c =
+    let a = c.args in
+    let k : length (take (a.at + a.n - a.at) (drop a.at a.w.now)) ≡ a.n = simp (length-take, length-drop) (omega arith) in
+    laid-at a.at a.n (replicate a.n 0) a.w.now _ (length-replicate a.n 0) (c.fill.ensures.after (λ y e. e) ∙ ap (λ (j : ℕ). replicate j 0) k)

@@ -1,67 +1,48 @@
 -- What was found says that a name lies inside the text and that a number is in the range; then its token is laid. Assumes nothing.
 use native.Mathlib.Omega.{arith}
+use mathlib.Core.Path.{ap, ◌∙◌}
+use Rattle.std.specs.Prelude.{Ok}
+use Rattle.std.proofs.lemmas.Result.{err_from_is_err_and}
 use Rattle.wording.proofs.Taken.{took-name, took_number, operand-name, operand-number, operand-wrong}
 use Rattle.wording.proofs.conditions.take_operand.Goals as goal
+
+pub returns-in_err-end : goal.returns-in_err-end
+returns-in_err-end c =
+    let a = c.args in
+    let p = err_from_is_err_and c.from_residual.result c.from_residual.ensures.1 in
+    rw (p.1, p.2) (operand-wrong a.s.now.bytes.now a.from.at _ c.requires c.read_operand.ensures _ c.in_err-end.was a.from.tally _ _)
 
 pub slice_bounds-emit_name-count : goal.slice_bounds-emit_name-count
 slice_bounds-emit_name-count c =
     let a = c.args in
-    let s = a.s.now in
-    let h = c.requires in
-    let k = took-name s a.at _ h.0 c.read_operand-f.ensures _ c.in-Name.is in
+    let k = took-name a.s.now.bytes.now a.from.at _ c.requires c.read_operand.ensures _ (c.in_ok-end.was ∙ ap Ok c.in-Name.is) in
     omega (arith, k.low)
 
 pub slice_bounds-emit_name-start : goal.slice_bounds-emit_name-start
 slice_bounds-emit_name-start c =
     let a = c.args in
-    let s = a.s.now in
-    let h = c.requires in
-    let k = took-name s a.at _ h.0 c.read_operand-f.ensures _ c.in-Name.is in
+    let k = took-name a.s.now.bytes.now a.from.at _ c.requires c.read_operand.ensures _ (c.in_ok-end.was ∙ ap Ok c.in-Name.is) in
     omega (arith, k.low)
-
-pub slice_bounds-emit_name-end : goal.slice_bounds-emit_name-end
-slice_bounds-emit_name-end c =
-    let a = c.args in
-    let s = a.s.now in
-    let h = c.requires in
-    let k = took-name s a.at _ h.0 c.read_operand-f.ensures _ c.in-Name.is in
-    omega (arith, k.low, k.top)
 
 pub emit_name-requires : goal.emit_name-requires
 emit_name-requires c =
     let a = c.args in
-    let s = a.s.now in
-    let h = c.requires in
-    let k = took-name s a.at _ h.0 c.read_operand-f.ensures _ c.in-Name.is in
-    omega (arith, k.low, k.top)
+    let k = took-name a.s.now.bytes.now a.from.at _ c.requires c.read_operand.ensures _ (c.in_ok-end.was ∙ ap Ok c.in-Name.is) in
+    omega (arith, k.low, k.top, a.s.now.short)
 
 pub emit_number-requires : goal.emit_number-requires
 emit_number-requires c =
     let a = c.args in
-    let s = a.s.now in
-    let h = c.requires in
-    let k = took_number s a.at _ h.0 c.read_operand-f.ensures _ _ _ c.in-Number.is in
-    k.fits
+    (took_number a.s.now.bytes.now a.from.at _ c.requires c.read_operand.ensures _ _ _ (c.in_ok-end.was ∙ ap Ok c.in-Number.is)).fits
 
 pub returns-in-Name : goal.returns-in-Name
 returns-in-Name c =
     let a = c.args in
-    let s = a.s.now in
-    let h = c.requires in
-    let k = took-name s a.at _ h.0 c.read_operand-f.ensures _ c.in-Name.is in
-    operand-name s a.at _ a.w _ a.out.now _ k c.emit_name.ensures
+    let k = took-name a.s.now.bytes.now a.from.at _ c.requires c.read_operand.ensures _ (c.in_ok-end.was ∙ ap Ok c.in-Name.is) in
+    operand-name a.s.now.bytes.now a.from.at _ a.from.tally _ a.out.now _ k c.emit_name.ensures
 
 pub returns-in-Number : goal.returns-in-Number
 returns-in-Number c =
     let a = c.args in
-    let s = a.s.now in
-    let h = c.requires in
-    let k = took_number s a.at _ h.0 c.read_operand-f.ensures _ _ _ c.in-Number.is in
-    operand-number s a.at _ _ _ a.w _ a.out.now _ k c.emit_number.ensures
-
-pub returns-in-Wrong : goal.returns-in-Wrong
-returns-in-Wrong c =
-    let a = c.args in
-    let s = a.s.now in
-    let h = c.requires in
-    operand-wrong s a.at _ h.0 c.read_operand-f.ensures _ c.in-Wrong.is a.w _ _
+    let k = took_number a.s.now.bytes.now a.from.at _ c.requires c.read_operand.ensures _ _ _ (c.in_ok-end.was ∙ ap Ok c.in-Number.is) in
+    operand-number a.s.now.bytes.now a.from.at _ _ _ a.from.tally _ a.out.now _ k c.emit_number.ensures

@@ -1,24 +1,30 @@
 -- No digit, or one and what is found behind it. Assumes nothing.
 use native.Mathlib.Omega.{arith}
-use mathlib.Core.Path.{sym, ◌∙◌}
+use Rattle.std.proofs.Common.{◌≡◌, ◌-◌, ◌<◌, true, false, length, get_or}
+use Rattle.std.proofs.lemmas.Grind.{common_steps}
+use Rattle.std.specs.Char.{is_ascii_digit}
 use Rattle.wording.proofs.Leaf.{number-none, number-first}
 use Rattle.wording.proofs.operands.read_number.Goals as goal
 
-pub returns-then-class_at-ne1 : goal.returns-then-class_at-ne1
-returns-then-class_at-ne1 c =
+pub returns-in-Some : goal.returns-in-Some
+returns-in-Some c =
     let a = c.args in
     let s = a.s.now in
-    number-none s a.at a.neg c.requires (λ e. c.if-class_at-ne1.true (c.class_at.ensures.is ∙ e))
+    let i : a.at < length s = grind (arith, common_steps) in
+    let e : is_ascii_digit (get_or s a.at 0) ≡ true = grind (arith, common_steps) in
+    let q : c.from.result ≡ get_or s a.at 0 - 48 = grind (arith, common_steps) in
+    number-first s a.at a.neg _ i e q _ c.number_from.ensures
 
-pub bounds-s-at : goal.bounds-s-at
-bounds-s-at c = omega (arith, c.class_at.ensures.inside (omega arith))
-
-pub number_from-requires : goal.number_from-requires
-number_from-requires c = omega (arith, c.class_at.ensures.inside (omega arith))
-
-pub returns : goal.returns
-returns c =
+pub returns-in_default : goal.returns-in_default
+returns-in_default c =
     let a = c.args in
     let s = a.s.now in
-    let k = c.class_at.ensures in
-    number-first s a.at a.neg _ (k.inside (omega arith)) (sym k.is ∙ c.if-class_at-ne1.false) c.digit_value.ensures.0 _ c.number_from.ensures
+    let e : is_ascii_digit (get_or s a.at 0) ≡ false = grind (arith, common_steps) in
+    number-none s a.at a.neg c.requires e
+
+pub returns-in_default-2 : goal.returns-in_default-2
+returns-in_default-2 c =
+    let a = c.args in
+    let s = a.s.now in
+    let e : is_ascii_digit (get_or s a.at 0) ≡ false = grind (arith, common_steps) in
+    number-none s a.at a.neg c.requires e

@@ -1,32 +1,37 @@
 -- By the first byte: a name, a number behind a minus, or a number. Assumes nothing.
 use native.Mathlib.Omega.{arith}
-use mathlib.Core.Path.{sym, ◌∙◌}
-use Rattle.wording.proofs.Leaf.{op-name, op-minus, op-plain}
+use Rattle.std.proofs.Common.{◌≡◌, ◌<◌, true, false, length, get_or}
+use Rattle.std.proofs.lemmas.Grind.{common_steps}
+use Rattle.std.specs.Char.{is_ascii_alphabetic}
+use Rattle.wording.proofs.Leaf.{name_inside, op-name, op-minus, op-plain}
 use Rattle.wording.proofs.operands.read_operand.Goals as goal
 
-pub name_end-requires : goal.name_end-requires
-name_end-requires c = omega (arith, c.class_at.ensures.inside (omega arith))
+pub overflow_add-result-in-Some : goal.overflow_add-result-in-Some
+overflow_add-result-in-Some c =
+    let a = c.args in
+    let i : a.at < length a.s.now = grind (arith, common_steps) in
+    omega (arith, name_inside a.s.now a.at _ i c.name_length.ensures)
 
-pub returns-then-class_at-eq2 : goal.returns-then-class_at-eq2
-returns-then-class_at-eq2 c =
+pub returns-in-Some : goal.returns-in-Some
+returns-in-Some c =
     let a = c.args in
     let s = a.s.now in
-    let k = c.class_at.ensures in
-    op-name s a.at (k.inside (omega arith)) (sym k.is ∙ c.if-class_at-eq2.true) _ c.name_end.ensures
+    let i : a.at < length s = grind (arith, common_steps) in
+    let e : is_ascii_alphabetic (get_or s a.at 0) ≡ true = grind (arith, common_steps) in
+    op-name s a.at _ i e c.name_length.ensures
 
-pub read_number-requires : goal.read_number-requires
-read_number-requires c = omega (arith, c.byte_is.ensures.inside c.if-byte_is.true)
-
-pub returns-then-byte_is : goal.returns-then-byte_is
-returns-then-byte_is c =
+pub returns-in-Some-eq45 : goal.returns-in-Some-eq45
+returns-in-Some-eq45 c =
     let a = c.args in
     let s = a.s.now in
-    let b = c.byte_is.ensures in
-    op-minus s a.at (λ e. c.if-class_at-eq2.false (c.class_at.ensures.is ∙ e))
-    (sym b.is ∙ c.if-byte_is.true) (b.inside c.if-byte_is.true) _ c.read_number.ensures
+    let i : a.at < length s = grind (arith, common_steps) in
+    let e : is_ascii_alphabetic (get_or s a.at 0) ≡ false = grind (arith, common_steps) in
+    let b : get_or s a.at 0 ≡ 45 = grind (arith, common_steps) in
+    op-minus s a.at e b i _ c.read_number.ensures
 
-pub returns : goal.returns
-returns c =
+pub returns-in_default : goal.returns-in_default
+returns-in_default c =
     let a = c.args in
     let s = a.s.now in
-    op-plain s a.at (λ e. c.if-class_at-eq2.false (c.class_at.ensures.is ∙ e)) (sym c.byte_is.ensures.is ∙ c.if-byte_is.false) _ c.read_number-2.ensures
+    let e : is_ascii_alphabetic (get_or s a.at 0) ≡ false = grind (arith, common_steps) in
+    op-plain s a.at e (λ b. grind (arith, common_steps)) _ c.read_number-in_default.ensures

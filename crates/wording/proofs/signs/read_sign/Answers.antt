@@ -1,123 +1,68 @@
--- Each return is a case of `read_sign`, by the tests that led there. Assumes nothing.
-use mathlib.Core.Path.{sym, ◌∙◌}
-use Rattle.wording.proofs.Leaf.{sign-equal, sign-equal-no, sign-unequal, sign-unequal-no, sign-most, sign_below, sign-none, sign-least, sign_above}
+-- By the first two bytes. Assumes nothing.
+use Rattle.std.proofs.Common.{◌≡◌, ℕ, ◌≤◌, List, ◌+◌, drop, length, arith, length-drop}
+use Rattle.std.proofs.lemmas.Grind.{common_steps}
+use Rattle.wording.proofs.Leaf.{equal_is, unequal_is, at_most_is, at_least_is, below_is, above_is, half_is, no_sign}
 use Rattle.wording.proofs.signs.read_sign.Goals as goal
 
-pub returns-then-byte_is-2 : goal.returns-then-byte_is-2
-returns-then-byte_is-2 c =
-    let a = c.args in
-    let s = a.s.now in
-    let p = c.requires in
-    let e0 = c.if-byte_is.true in
-    let e = sym c.byte_is.ensures.is ∙ e0 in
-    let e-in = c.byte_is.ensures.inside e0 in
-    let q0 = c.if-byte_is-2.true in
-    let q = sym c.byte_is-then-byte_is.ensures.is ∙ q0 in
-    let q-in = c.byte_is-then-byte_is.ensures.inside q0 in
-    sign-equal s a.at p e e-in q q-in
+left : (s : List ℕ) (at : ℕ) → at ≤ length s → length (drop at s) + at ≡ length s
+left s at h = omega (arith, length-drop at s)
 
-pub returns-then-byte_is : goal.returns-then-byte_is
-returns-then-byte_is c =
+pub returns-in-61 : goal.returns-in-61
+returns-in-61 c =
     let a = c.args in
     let s = a.s.now in
-    let p = c.requires in
-    let e0 = c.if-byte_is.true in
-    let e = sym c.byte_is.ensures.is ∙ e0 in
-    let e-in = c.byte_is.ensures.inside e0 in
-    let q = sym c.byte_is-then-byte_is.ensures.is ∙ c.if-byte_is-2.false in
-    sign-equal-no s a.at p e e-in q
+    equal_is (length s) a.at (drop a.at s) (left s a.at c.requires) (grind (arith, common_steps)) (grind (arith, common_steps))
 
-pub returns-then-byte_is-4 : goal.returns-then-byte_is-4
-returns-then-byte_is-4 c =
+pub returns-in-33 : goal.returns-in-33
+returns-in-33 c =
     let a = c.args in
     let s = a.s.now in
-    let p = c.requires in
-    let e = sym c.byte_is.ensures.is ∙ c.if-byte_is.false in
-    let n0 = c.if-byte_is-3.true in
-    let n = sym c.byte_is-2.ensures.is ∙ n0 in
-    let n-in = c.byte_is-2.ensures.inside n0 in
-    let q0 = c.if-byte_is-4.true in
-    let q = sym c.byte_is-then-byte_is-3.ensures.is ∙ q0 in
-    let q-in = c.byte_is-then-byte_is-3.ensures.inside q0 in
-    sign-unequal s a.at p e n n-in q q-in
+    unequal_is (length s) a.at (drop a.at s) (left s a.at c.requires) (grind (arith, common_steps)) (grind (arith, common_steps))
 
-pub returns-then-byte_is-3 : goal.returns-then-byte_is-3
-returns-then-byte_is-3 c =
+pub returns-in-60 : goal.returns-in-60
+returns-in-60 c =
     let a = c.args in
     let s = a.s.now in
-    let p = c.requires in
-    let e = sym c.byte_is.ensures.is ∙ c.if-byte_is.false in
-    let n0 = c.if-byte_is-3.true in
-    let n = sym c.byte_is-2.ensures.is ∙ n0 in
-    let n-in = c.byte_is-2.ensures.inside n0 in
-    let q = sym c.byte_is-then-byte_is-3.ensures.is ∙ c.if-byte_is-4.false in
-    sign-unequal-no s a.at p e n n-in q
+    at_most_is (length s) a.at (drop a.at s) (left s a.at c.requires) (grind (arith, common_steps)) (grind (arith, common_steps))
 
-pub returns-then-byte_is-6 : goal.returns-then-byte_is-6
-returns-then-byte_is-6 c =
+pub returns-in-62 : goal.returns-in-62
+returns-in-62 c =
     let a = c.args in
     let s = a.s.now in
-    let p = c.requires in
-    let e = sym c.byte_is.ensures.is ∙ c.if-byte_is.false in
-    let n = sym c.byte_is-2.ensures.is ∙ c.if-byte_is-3.false in
-    let l0 = c.if-byte_is-5.true in
-    let l = sym c.byte_is-3.ensures.is ∙ l0 in
-    let l-in = c.byte_is-3.ensures.inside l0 in
-    let q0 = c.if-byte_is-6.true in
-    let q = sym c.byte_is-then-byte_is-5.ensures.is ∙ q0 in
-    let q-in = c.byte_is-then-byte_is-5.ensures.inside q0 in
-    sign-most s a.at p e n l l-in q q-in
+    at_least_is (length s) a.at (drop a.at s) (left s a.at c.requires) (grind (arith, common_steps)) (grind (arith, common_steps))
 
-pub returns-then-byte_is-5 : goal.returns-then-byte_is-5
-returns-then-byte_is-5 c =
+pub returns-in-60-2 : goal.returns-in-60-2
+returns-in-60-2 c =
     let a = c.args in
     let s = a.s.now in
-    let p = c.requires in
-    let e = sym c.byte_is.ensures.is ∙ c.if-byte_is.false in
-    let n = sym c.byte_is-2.ensures.is ∙ c.if-byte_is-3.false in
-    let l0 = c.if-byte_is-5.true in
-    let l = sym c.byte_is-3.ensures.is ∙ l0 in
-    let l-in = c.byte_is-3.ensures.inside l0 in
-    let q = sym c.byte_is-then-byte_is-5.ensures.is ∙ c.if-byte_is-6.false in
-    sign_below s a.at p e n l l-in q
+    below_is (length s) a.at (drop a.at s) (left s a.at c.requires) (grind (arith, common_steps)) (λ e. grind (arith, common_steps))
 
-pub returns-then-not-byte_is : goal.returns-then-not-byte_is
-returns-then-not-byte_is c =
+pub returns-in-62-2 : goal.returns-in-62-2
+returns-in-62-2 c =
     let a = c.args in
     let s = a.s.now in
-    let p = c.requires in
-    let e = sym c.byte_is.ensures.is ∙ c.if-byte_is.false in
-    let n = sym c.byte_is-2.ensures.is ∙ c.if-byte_is-3.false in
-    let l = sym c.byte_is-3.ensures.is ∙ c.if-byte_is-5.false in
-    let g = sym c.byte_is-4.ensures.is ∙ c.if-not-byte_is.true in
-    sign-none s a.at p e n l g
+    above_is (length s) a.at (drop a.at s) (left s a.at c.requires) (grind (arith, common_steps)) (λ e. grind (arith, common_steps))
 
-pub returns-then-byte_is-7 : goal.returns-then-byte_is-7
-returns-then-byte_is-7 c =
+pub returns-in-61-2 : goal.returns-in-61-2
+returns-in-61-2 c =
     let a = c.args in
     let s = a.s.now in
-    let p = c.requires in
-    let e = sym c.byte_is.ensures.is ∙ c.if-byte_is.false in
-    let n = sym c.byte_is-2.ensures.is ∙ c.if-byte_is-3.false in
-    let l = sym c.byte_is-3.ensures.is ∙ c.if-byte_is-5.false in
-    let g0 = c.if-not-byte_is.false in
-    let g = sym c.byte_is-4.ensures.is ∙ g0 in
-    let g-in = c.byte_is-4.ensures.inside g0 in
-    let q0 = c.if-byte_is-7.true in
-    let q = sym c.byte_is-5.ensures.is ∙ q0 in
-    let q-in = c.byte_is-5.ensures.inside q0 in
-    sign-least s a.at p e n l g g-in q q-in
+    half_is (length s) a.at (drop a.at s) (left s a.at c.requires) (λ e. grind (arith, common_steps)) (λ e. grind (arith, common_steps))
 
-pub returns : goal.returns
-returns c =
+pub returns-in_default : goal.returns-in_default
+returns-in_default c =
     let a = c.args in
     let s = a.s.now in
-    let p = c.requires in
-    let e = sym c.byte_is.ensures.is ∙ c.if-byte_is.false in
-    let n = sym c.byte_is-2.ensures.is ∙ c.if-byte_is-3.false in
-    let l = sym c.byte_is-3.ensures.is ∙ c.if-byte_is-5.false in
-    let g0 = c.if-not-byte_is.false in
-    let g = sym c.byte_is-4.ensures.is ∙ g0 in
-    let g-in = c.byte_is-4.ensures.inside g0 in
-    let q = sym c.byte_is-5.ensures.is ∙ c.if-byte_is-7.false in
-    sign_above s a.at p e n l g g-in q
+    no_sign (length s) a.at (drop a.at s) (left s a.at c.requires) (λ e. grind (arith, common_steps)) (λ e. grind (arith, common_steps)) (λ e. grind (arith, common_steps)) (λ e. grind (arith, common_steps))
+
+pub returns-in_default-2 : goal.returns-in_default-2
+returns-in_default-2 c =
+    let a = c.args in
+    let s = a.s.now in
+    no_sign (length s) a.at (drop a.at s) (left s a.at c.requires) (λ e. grind (arith, common_steps)) (λ e. grind (arith, common_steps)) (λ e. grind (arith, common_steps)) (λ e. grind (arith, common_steps))
+
+pub returns-in_default-3 : goal.returns-in_default-3
+returns-in_default-3 c =
+    let a = c.args in
+    let s = a.s.now in
+    no_sign (length s) a.at (drop a.at s) (left s a.at c.requires) (λ e. grind (arith, common_steps)) (λ e. grind (arith, common_steps)) (λ e. grind (arith, common_steps)) (λ e. grind (arith, common_steps))

@@ -1,19 +1,15 @@
--- No room, or the bytes on the front of what is lent from there on. Assumes nothing.
-use native.Mathlib.Omega.{arith}
+-- The bytes on the front of what is lent from there on, or no room. Assumes nothing.
+use mathlib.Core.Path.{sym, ◌∙◌}
+use borrow.Author.Tests.{leb-true, leb-false}
 use Rattle.wording.proofs.Laid.{no_room, fits}
 use Rattle.wording.proofs.tokens.lay.Goals as goal
 
-pub returns-then-out-at : goal.returns-then-out-at
-returns-then-out-at c =
+pub returns-then-fits : goal.returns-then-fits
+returns-then-fits c =
     let a = c.args in
-    no_room a.bytes.now a.w a.out.now (omega arith)
+    fits a.bytes.now a.w a.out.now _ (leb-true _ _ (sym c.fits.ensures ∙ c.if-fits.true)) c.put.ensures
 
-pub returns-then-out-at-2 : goal.returns-then-out-at-2
-returns-then-out-at-2 c =
+pub returns-else-fits : goal.returns-else-fits
+returns-else-fits c =
     let a = c.args in
-    no_room a.bytes.now a.w a.out.now (omega arith)
-
-pub returns : goal.returns
-returns c =
-    let a = c.args in
-    fits a.bytes.now a.w a.out.now _ (omega arith) c.put.ensures
+    no_room a.bytes.now a.w a.out.now (leb-false _ _ (sym c.fits.ensures ∙ c.if-fits.false))

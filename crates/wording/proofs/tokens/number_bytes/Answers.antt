@@ -1,9 +1,6 @@
--- The bytes are those of `spell 8`, one division after the other. Assumes nothing.
-use mathlib.Core.Path.{refl}
-use Rattle.octets.specs.Bytes.{spell}
-use Rattle.wording.specs.Stored.{token_bytes}
+-- The bytes are those of `spell 8`. Assumes nothing.
+use Rattle.wording.proofs.Laid.{number-bytes}
 use Rattle.wording.proofs.tokens.number_bytes.Goals as goal
 
 pub returns : goal.returns
-unfolding token_bytes spell
-returns c = refl
+returns c = number-bytes c.args.m _ c.to_le_bytes.ensures

@@ -1,27 +1,18 @@
--- The identity's own bytes, or more than an identity holds. Assumes nothing.
+-- More than an identity holds is none. Assumes nothing.
 use borrow.Author.Rules.{rules}
 use native.Mathlib.Omega.{arith}
-use mathlib.Core.Path.{◌≡◌, sym, ap}
+use mathlib.Core.Path.{◌≡◌, sym, ap, ◌∙◌}
+use mathlib.Core.Logic.{inl, inr}
+use Prim.Native.Nat.{◌<◌}
 use lib.ListN.{length}
-use lib.Seq.{length-take-le, take_all}
-use Rattle.list.proofs.Sids.{not-twelve}
+use lib.Seq.{take_all}
+use Rattle.list.proofs.Sids.{not-twelve, in-neither}
 use Rattle.list.proofs.identities.Sid.placeholder.Goals as goal
 
-pub returns-then-len-gt68 : goal.returns-then-len-gt68
-returns-then-len-gt68 c =
+pub returns-in_err-get : goal.returns-in_err-get
+returns-in_err-get c =
     let i = c.args.self in
     let e : length i.bytes ≡ 68 = search rules in
+    let m : 68 < i.len = elim c.in_err-get.ensures.lookup.0 [ inl h ↦ absurd (omega arith) | inr h ↦ omega arith ] in
     let a = take_all i.len i.bytes (omega arith) in
-    sym (not-twelve _ (λ x. omega (arith, ap length a)))
-
-pub slice_bounds-bytes-end : goal.slice_bounds-bytes-end
-slice_bounds-bytes-end c =
-    let i = c.args.self in
-    let e : length i.bytes ≡ 68 = search rules in
-    omega arith
-
-pub slice_bounds-placeholder_of-end : goal.slice_bounds-placeholder_of-end
-slice_bounds-placeholder_of-end c =
-    let i = c.args.self in
-    let e : length i.bytes ≡ 68 = search rules in
-    sym (length-take-le i.len i.bytes (omega arith))
+    c.from_residual.ensures ∙ sym (in-neither _ (not-twelve _ (λ x. omega (arith, ap length a))))
