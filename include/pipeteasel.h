@@ -90,7 +90,7 @@ enum {
  *   1,280 bytes  pt_may_open, pt_may_open_with
  *   2,048 bytes  pt_compute
  *   20,480 bytes  pt_compare
- *   204,800 bytes  pt_condition
+ *   163,840 bytes  pt_condition
  *   245,760 bytes  pt_add, pt_set_list, pt_set_mark, pt_set_owner, pt_undo
  *   348,160 bytes  pt_play
  */

@@ -35,7 +35,7 @@ pub(crate) fn has(flags: u8, bit: u8) -> bool
 fn among(guid: [u8; 16], types: &[[u8; 16]]) -> bool
     ensures { result ≡ among guid types.now }
 {
-    types.contains(&guid)
+    types.iter().any(|one| *one == guid)
 }
 
 // Types 00 and 01 always, object types if they have an ObjectType that is among the object types.

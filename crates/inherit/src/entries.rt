@@ -29,6 +29,7 @@ impl<'a> Entry<'a> {
     }
 
     // All fields, where it is copied or an object type is asked for; what only goes over an entry needs two of them.
+    #[inline(always)]
     pub(crate) fn look(&self) -> Look
         ensures { result ≡ look_of self.now.bytes.now }
     {

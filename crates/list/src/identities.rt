@@ -103,7 +103,7 @@ pub fn sid_in(s: &[u8], at: usize) -> Option<usize>
     ensures { result ≡ unless_zero (whole_sid (drop at s.now)) }
 {
     let len = sid_at(s, at)?;
-    if s.len() - at < len {
+    if s.len().saturating_sub(at) < len {
         return None;
     }
     Some(len)

@@ -19,6 +19,7 @@ pub struct Look {
 }
 
 // Looks at the entry that `t` begins with; bytes that are not there count as 0. The last ones of the head are read first: where they are there, so are the others.
+#[inline(always)]
 #[tactic(auto, unfolding(crate::specs::Entry::head_of, crate::specs::Entry::word_after))]
 pub fn look_at(t: &[u8]) -> Look
     ensures { result ≡ look_of t.now }

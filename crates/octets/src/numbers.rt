@@ -1,5 +1,5 @@
 // Little-endian numbers, bytes compared, and bytes put on the front of a buffer.
-ghost use Rattle.std.specs.Prelude.{◌≡◌, ◌+◌, ◌<◌, ◌≤◌, ◌↔◌, length, get_or, take, drop, IsSome, MatchOption};
+ghost use Rattle.std.specs.Prelude.{◌≡◌, ◌+◌, ◌≤◌, length, get_or, drop, leb};
 ghost use Rattle.octets.specs.Bytes.{le, same_bytes, part, put_on};
 
 // As much of `from` as there is room for, on the front of `to`. One by one, of which a memcpy is made: std's `copy_from_slice` takes memmove, and the C
@@ -20,33 +20,42 @@ pub fn byte_in(s: &[u8], at: usize) -> u8
     s.get(at).copied().unwrap_or(0)
 }
 
-// The N bytes at `at`, where they are all there.
-fn chunk_at<const N: usize>(s: &[u8], at: usize) -> Option<&[u8; N]>
-    ensures bytes { MatchOption result (length s.now < at + N) (λ y. y.now ≡ take N (drop at s.now)) }
-    ensures there { IsSome result ↔ (at + N ≤ length s.now) }
+// Whether the n bytes at `at` are all there: the last place where they could begin is found first, which in a loop over one slice is done once.
+fn holds(s: &[u8], at: usize, n: usize) -> bool
+    ensures { result ≡ leb (at + n) (length s.now) }
 {
-    s.get(at..)?.first_chunk()
+    n <= s.len() && at <= s.len() - n
+}
+
+// The 32-bit number at `at`, of bytes that are all there.
+fn word_at(s: &[u8], at: usize) -> u32
+    requires { at + 4 ≤ length s.now }
+    ensures { result ≡ le 4 (drop at s.now) }
+{
+    u32::from_le_bytes([s[at], s[at + 1], s[at + 2], s[at + 3]])
 }
 
 // The 16-bit number at `at`; bytes that are not there count as 0. It and `word_in` differ in what is left where bytes are missing, so one for both is no plainer.
 pub fn half_in(s: &[u8], at: usize) -> u16
     ensures { result ≡ le 2 (drop at s.now) }
 {
-    match chunk_at::<2>(s, at) {
-        Some(bytes) => u16::from_le_bytes(*bytes),
-        None => u16::from(byte_in(s, at)),
+    if holds(s, at, 2) {
+        return u16::from_le_bytes([s[at], s[at + 1]]);
     }
+    u16::from(byte_in(s, at))
 }
 
 // The 32-bit number at `at`; bytes that are not there count as 0.
 pub fn word_in(s: &[u8], at: usize) -> u32
     ensures { result ≡ le 4 (drop at s.now) }
 {
-    match chunk_at::<4>(s, at) {
-        Some(bytes) => u32::from_le_bytes(*bytes),
-        None if at < s.len() => u32::from(half_in(s, at)) + 65536 * u32::from(byte_in(s, at + 2)),
-        None => 0,
+    if holds(s, at, 4) {
+        return word_at(s, at);
     }
+    if at < s.len() {
+        return u32::from(half_in(s, at)) + 65536 * u32::from(byte_in(s, at + 2));
+    }
+    0
 }
 
 // Whether the bytes from `at` on are the same: what `same_bytes` has left, three at most, for which a call of std's test is too much.
@@ -72,7 +81,7 @@ pub fn same_bytes(a: &[u8], b: &[u8]) -> bool
     }
     let mut at = 0;
     while 4 <= a.len() - at {
-        if word_in(a, at) != word_in(b, at) {
+        if word_at(a, at) != word_at(b, at) {
             return false;
         }
         at += 4;

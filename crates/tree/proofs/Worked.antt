@@ -11,8 +11,9 @@ use Rattle.octets.specs.Order.{need}
 use Rattle.octets.specs.Bytes.{le, spell, same_bytes, guid_at, part, among}
 use Rattle.list.specs.Identity.{length_of_sid, is_sid, placeholder_of, identity_of}
 use Rattle.list.specs.Entry.{plain_of, object_of, object_kind, kind_ok, flags_ok, head_of, word_after, entry_bytes, conditional_of, conditional_kind, expression_ok, tail_long, size_ok, entry_of}
-use Rattle.list.specs.List.{rev_ok, header_ok, cut, entries_of, head_bytes, render, on_good, walk_of, finish, check_of, MaybeList}
+use Rattle.list.specs.List.{rev_ok, header_ok, cut, entries_of, head_bytes, render, on_good, walk_of, finish, check_of, MaybeList, lent}
 use Rattle.inherit.specs.Asked.{Asked, entries_if, types_ok, types_of}
+use Rattle.inherit.specs.Inner.Source.{given}
 use Rattle.inherit.specs.Copies.{any_heritable, type_applies, pass, kept_flags, takes_first, first_part, takes_second, second_part, from_parent, own_entries, from_creator}
 use Rattle.inherit.specs.Last.{in_place, mapped, mends, mended, last_mask, resolved, last_of, last_step}
 use Rattle.inherit.specs.Branch.{inherited_bit, with_creator, from_default, branch, result_of}
@@ -22,6 +23,7 @@ use Rattle.tree.specs.Model.{Object, parent_byte, limits_ok}
 use Rattle.tree.specs.General.{bind}
 use Rattle.tree.specs.Held.{bytes_in, id_in, id_for, slot_for, block_for}
 use Rattle.tree.specs.Room.{room_for, room_of, settings_for}
+use Rattle.tree.specs.Calls.{list_bytes}
 use Rattle.tree.specs.Formed.{formed, counts_ok}
 use Rattle.tree.specs.Work.{computed}
 use Rattle.tree.specs.Inner.Asking.{settings_asked}
@@ -74,9 +76,16 @@ nothing = refl
 
 -- ---- the computation's settings
 
--- what is asked, taken apart as the public call takes it, is asked again
-pub asked-again : (a : Asked) → asked_by a.rule (settings_asked a) a.mapping a.parent a.creator a.default a.types a.owner a.group ≡ a
-asked-again a = refl
+lent_back : (p : MaybeList) → lent (given p) (list_bytes p) ≡ p
+unfolding list_bytes
+lent_back none = refl
+lent_back (some s) = refl
+
+-- what is asked, taken apart into whether each list is given and its bytes, as C's call takes it, is asked again
+pub asked-again : (a : Asked)
+    → asked_by a.rule (settings_asked a) a.mapping (lent (given a.parent) (list_bytes a.parent)) (lent (given a.creator) (list_bytes a.creator))
+    (lent (given a.default) (list_bytes a.default)) a.types a.owner a.group ≡ a
+asked-again a = rw (lent_back a.parent, lent_back a.creator, lent_back a.default) refl
 
 -- ---- the tree of RULES 6.7's script
 

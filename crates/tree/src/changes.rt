@@ -58,7 +58,9 @@ fn change_in(r: &mut [u8], w: &mut [u8], p: Put) -> Result<Done, Fault>
     Ok(told(slot(w, p.object)))
 }
 
-// The same on a copy in an array of N bytes. An array is cleared whole each time, so a small room's copy lies in a small one.
+// The same on a copy in an array of N bytes. An array is cleared whole each time, so a small room's copy lies in a small one. Apart, so that a call that
+// is refused before takes no room for it.
+#[inline(never)]
 fn change_within<const N: usize>(r: &mut [u8], p: Put) -> Result<Done, Fault>
     requires head { Head r.old × (room_for (object_limit r.old) (step_limit r.old) ≤ N) }
     requires largest { N ≤ 218456 }
@@ -109,7 +111,8 @@ fn undo_in(r: &mut [u8], w: &mut [u8]) -> Result<Done, Fault>
     Ok(TELLS_NOTHING)
 }
 
-// The same on a copy in an array of N bytes.
+// The same on a copy in an array of N bytes, apart too.
+#[inline(never)]
 fn undo_within<const N: usize>(r: &mut [u8]) -> Result<Done, Fault>
     requires head { Head r.old × (room_for (object_limit r.old) (step_limit r.old) ≤ N) }
     requires largest { N ≤ 218456 }

@@ -1,7 +1,8 @@
 // Works the computed lists out again, parents first.
-ghost use Rattle.std.specs.Prelude.{◌≡◌, Ok, ◌+◌, ◌≤◌, ◌<◌, length};
-ghost use Rattle.std.proofs.Math.Option.{some};
+ghost use Rattle.std.specs.Prelude.{◌≡◌, [], Ok, ◌+◌, ◌≤◌, ◌<◌, length};
+ghost use Rattle.std.proofs.Math.Option.{none, some};
 ghost use Rattle.inherit.specs.Compute.{Answers};
+ghost use Rattle.tree.specs.Inner.Asking.{settings_asked};
 ghost use Rattle.tree.specs.Inner.Else.{or_else, worked_out};
 ghost use Rattle.tree.specs.Held.{lent_list, parent_of};
 ghost use Rattle.tree.specs.Room.{own_at, slot_at, mapping_of, own_data as Room·own};
@@ -30,6 +31,19 @@ fn mapping_in(e: &[u8]) -> Mapping
     }
 }
 
+// The settings of an object's computation, by its own data b; whatever the tree's settings and the parent's list are. Which lists there are doesn't stand in them: those
+// that are there are lent.
+fn settings_in(b: &[u8]) -> Settings
+    ensures { result ≡ settings_asked (asked_in [] none b.now) }
+{
+    Settings {
+        container: byte_in(b, 1) == 1,
+        auto: true,
+        defaulted: false,
+        protect: byte_in(b, 2) == 1,
+    }
+}
+
 // An object's list, on the front of out: from its parent's list, its own data b and the settings e.
 fn compute_in(
     e: &[u8],
@@ -42,12 +56,7 @@ fn compute_in(
     let kind = guid_at(b, TYPE_AT);
     inherit::compute(
         u32::from(byte_in(e, 0)),
-        Settings {
-            container: byte_in(b, 1) == 1,
-            auto: true,
-            defaulted: false,
-            protect: byte_in(b, 2) == 1,
-        },
+        settings_in(b),
         mapping_in(e),
         parent,
         list_in(part_of(b, OWN_LIST_AT, SLOT)),

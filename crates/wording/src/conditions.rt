@@ -9,6 +9,7 @@ use crate::bytes::byte_is;
 use crate::operands::{Operand, read_operand};
 use crate::operators::Operator;
 use crate::signs::read_sign;
+use crate::tallies::Tally;
 use crate::tokens::{emit_name, emit_number, emit_op, join};
 use crate::walk::{Place, Text, Wrong};
 
@@ -42,38 +43,31 @@ impl Row {
 }
 
 // An operand, and its token.
-fn take_operand(s: &Text, from: Place, out: &mut [u8]) -> Result<Place, Wrong>
-    requires { from.at ≤ length s.now.bytes.now }
-    ensures { OperandAt s.now.bytes.now from.at from.tally out.old result out.new }
+fn take_operand(s: &Text, at: usize, tally: &Tally, out: &mut [u8]) -> Result<Place, Wrong>
+    requires { at ≤ length s.now.bytes.now }
+    ensures { OperandAt s.now.bytes.now at tally.now out.old result out.new }
 {
-    match read_operand(s.bytes, from.at)? {
+    match read_operand(s.bytes, at)? {
         Operand::Name { end } => Ok(Place {
             at: end,
-            tally: emit_name(out, from.tally, &s.bytes[from.at..end]),
+            tally: emit_name(out, *tally, &s.bytes[at..end]),
         }),
         Operand::Number { neg, v, end } => Ok(Place {
             at: end,
-            tally: emit_number(out, from.tally, neg, v),
+            tally: emit_number(out, *tally, neg, v),
         }),
     }
 }
 
 // Two operands with a comparison between them, whose token stands behind theirs. Apart from a factor, so that one in parentheses takes less stack.
 #[inline(never)]
-fn read_comparison(s: &Text, from: Place, out: &mut [u8]) -> Result<Place, Wrong>
-    requires { from.at ≤ length s.now.bytes.now }
-    ensures { ComparedAt s.now.bytes.now from.at from.tally out.old result out.new }
+fn read_comparison(s: &Text, at: usize, tally: &Tally, out: &mut [u8]) -> Result<Place, Wrong>
+    requires { at ≤ length s.now.bytes.now }
+    ensures { ComparedAt s.now.bytes.now at tally.now out.old result out.new }
 {
-    let left = take_operand(s, from, out)?;
-    let (comparison, at) = read_sign(s.bytes, left.at)?;
-    let right = take_operand(
-        s,
-        Place {
-            at,
-            tally: left.tally,
-        },
-        out,
-    )?;
+    let left = take_operand(s, at, tally, out)?;
+    let (comparison, behind) = read_sign(s.bytes, left.at)?;
+    let right = take_operand(s, behind, &left.tally, out)?;
     Ok(Place {
         at: right.at,
         tally: emit_op(out, right.tally, comparison),
@@ -84,40 +78,48 @@ fn read_comparison(s: &Text, from: Place, out: &mut [u8]) -> Result<Place, Wrong
 #[cycle(read_condition_read_factor_read_term)]
 pub(crate) fn read_condition(
     s: &Text,
-    from: Place,
+    at: usize,
+    tally: &Tally,
     depth: usize,
     out: &mut [u8],
 ) -> Result<Place, Wrong>
-    requires { from.at ≤ length s.now.bytes.now }
-    ensures { ParsedAt condition false s.now.bytes.now from.at depth from.tally out.old result out.new }
+    requires { at ≤ length s.now.bytes.now }
+    ensures { ParsedAt condition false s.now.bytes.now at depth tally.now out.old result out.new }
 {
-    read_row(s, from, depth, Row::Condition, false, out)
+    read_row(s, at, tally, depth, Row::Condition, false, out)
 }
 
 // Factors joined by `&&`.
 #[cycle(read_condition_read_factor_read_term)]
-fn read_term(s: &Text, from: Place, depth: usize, out: &mut [u8]) -> Result<Place, Wrong>
-    requires { from.at ≤ length s.now.bytes.now }
-    ensures { ParsedAt term false s.now.bytes.now from.at depth from.tally out.old result out.new }
+fn read_term(
+    s: &Text,
+    at: usize,
+    tally: &Tally,
+    depth: usize,
+    out: &mut [u8],
+) -> Result<Place, Wrong>
+    requires { at ≤ length s.now.bytes.now }
+    ensures { ParsedAt term false s.now.bytes.now at depth tally.now out.old result out.new }
 {
-    read_row(s, from, depth, Row::Term, false, out)
+    read_row(s, at, tally, depth, Row::Term, false, out)
 }
 
-// The parts of a row; `joined` where its sign stands before the first one, behind which its operator is written then. Six
-// parameters are what the grammar's functions hand on; a struct of some of them would be taken apart here again, so it is no plainer.
+// The parts of a row; `joined` where its sign stands before the first one, behind which its operator is written then. Seven
+// parameters are what the grammar's functions hand on: a `Place` of two of them would be copied at each step (docs/DESIGN-PASS.md has what that takes).
 #[cycle(read_condition_read_factor_read_term)]
 fn read_row(
     s: &Text,
-    from: Place,
+    at: usize,
+    tally: &Tally,
     depth: usize,
     row: Row,
     joined: bool,
     out: &mut [u8],
 ) -> Result<Place, Wrong>
-    requires { from.at ≤ length s.now.bytes.now }
-    ensures { ParsedAt (row_of row) joined s.now.bytes.now from.at depth from.tally out.old result out.new }
+    requires { at ≤ length s.now.bytes.now }
+    ensures { ParsedAt (row_of row) joined s.now.bytes.now at depth tally.now out.old result out.new }
 {
-    let part = read_part(s, from, depth, row, out)?;
+    let part = read_part(s, at, tally, depth, row, out)?;
     let at = part.at;
     let tally = join(out, part.tally, joined, row.operator());
     if !byte_is(s.bytes, at, row.sign()) {
@@ -126,44 +128,53 @@ fn read_row(
     if !byte_is(s.bytes, at + 1, row.sign()) {
         return Err(Wrong { at: at + 1 });
     }
-    let next = Place { at: at + 2, tally };
-    read_row(s, next, depth, row, true, out)
+    read_row(s, at + 2, &tally, depth, row, true, out)
 }
 
 #[cycle(read_condition_read_factor_read_term)]
-fn read_part(s: &Text, from: Place, depth: usize, row: Row, out: &mut [u8]) -> Result<Place, Wrong>
-    requires { from.at ≤ length s.now.bytes.now }
-    ensures { ParsedAt (part_of row) false s.now.bytes.now from.at depth from.tally out.old result out.new }
+fn read_part(
+    s: &Text,
+    at: usize,
+    tally: &Tally,
+    depth: usize,
+    row: Row,
+    out: &mut [u8],
+) -> Result<Place, Wrong>
+    requires { at ≤ length s.now.bytes.now }
+    ensures { ParsedAt (part_of row) false s.now.bytes.now at depth tally.now out.old result out.new }
 {
     match row {
-        Row::Condition => read_term(s, from, depth, out),
-        Row::Term => read_factor(s, from, depth, out),
+        Row::Condition => read_term(s, at, tally, depth, out),
+        Row::Term => read_factor(s, at, tally, depth, out),
     }
 }
 
 // A factor in parentheses is again a whole condition; `depth` more of them may be opened.
 #[cycle(read_condition_read_factor_read_term)]
-fn read_factor(s: &Text, from: Place, depth: usize, out: &mut [u8]) -> Result<Place, Wrong>
-    requires { from.at ≤ length s.now.bytes.now }
-    ensures { ParsedAt factor false s.now.bytes.now from.at depth from.tally out.old result out.new }
+fn read_factor(
+    s: &Text,
+    at: usize,
+    tally: &Tally,
+    depth: usize,
+    out: &mut [u8],
+) -> Result<Place, Wrong>
+    requires { at ≤ length s.now.bytes.now }
+    ensures { ParsedAt factor false s.now.bytes.now at depth tally.now out.old result out.new }
 {
-    let Place { at, tally } = from;
     if byte_is(s.bytes, at, b'!') {
-        let next = Place { at: at + 1, tally };
-        let inner = read_factor(s, next, depth, out)?;
+        let inner = read_factor(s, at + 1, tally, depth, out)?;
         return Ok(Place {
             at: inner.at,
             tally: emit_op(out, inner.tally, Operator::Not),
         });
     }
     if !byte_is(s.bytes, at, b'(') {
-        return read_comparison(s, from, out);
+        return read_comparison(s, at, tally, out);
     }
     if depth == 0 {
         return Err(Wrong { at });
     }
-    let next = Place { at: at + 1, tally };
-    let inner = read_condition(s, next, depth - 1, out)?;
+    let inner = read_condition(s, at + 1, tally, depth - 1, out)?;
     if !byte_is(s.bytes, inner.at, b')') {
         return Err(Wrong { at: inner.at });
     }

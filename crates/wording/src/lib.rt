@@ -105,7 +105,8 @@ fn write(s: &Text, out: &mut [u8])
     ensures { Wrote s.now.bytes.now out.old out.new }
 {
     octets::put(out, b"artx");
-    let _ = read_condition(s, start(), MOST_OPEN, out);
+    let front = start();
+    let _ = read_condition(s, front.at, &front.tally, MOST_OPEN, out);
 }
 
 // The stored form of a text on the front of `out`. The first walk is lent no room: it reads and counts. Nothing is written before all is decided.
@@ -119,7 +120,12 @@ pub fn translate(text: &[u8], out: &mut [u8]) -> Result<Stored, TextFault>
         });
     }
     let s = &Text { bytes: text };
-    let end = read_condition(s, start(), MOST_OPEN, &mut out[..0])?;
+    let front = start();
+    // not by `?`: an edit changes the offset here (translate_offset_at_the_end)
+    let end = match read_condition(s, front.at, &front.tally, MOST_OPEN, &mut out[..0]) {
+        Ok(end) => end,
+        Err(wrong) => return Err(TextFault::from(wrong)),
+    };
     let stored = decide_at(end, text.len(), out.len())?;
     write(s, out);
     Ok(stored)

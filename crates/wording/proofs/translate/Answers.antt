@@ -19,17 +19,16 @@ returns-then-text-gt-MOST_TEXT c =
     let e = too_long a.text.now (length a.out.now) c.if-text-gt-MOST_TEXT.true in
     (e, after-refusal a.text.now a.out.now Text 512 e)
 
-pub returns-in_err-end : goal.returns-in_err-end
-returns-in_err-end c =
+pub returns-in-Err : goal.returns-in-Err
+returns-in-Err c =
     let a = c.args in
     let s = a.text.now in
     let o = a.out.now in
     let ys = c.read_condition.new.out in
     let empty = c.read_condition.auto.out in
-    let e = first_walk s o ys _ _ _ _ c.if-text-gt-MOST_TEXT.false empty c.start.ensures c.read_condition.ensures in
-    let d = ap (λ (r : Result Place Wrong). decide_of r (length s) (length (ys ++ o))) (sym c.in_err-end.was) ∙ e in
-    let p = err_from_is_err_and c.from_residual.result c.from_residual.ensures.1 in
-    rw (p.1, p.2) (d, ap (λ (l : List ℕ). l ++ o) (nothing ys empty) ∙ after-refusal s o _ _ d)
+    let e = first_walk s o ys _ _ _ _ c.if-text-gt-MOST_TEXT.false empty c.start-front.ensures c.read_condition.ensures in
+    let d = ap (λ (r : Result Place Wrong). decide_of r (length s) (length (ys ++ o))) (sym c.in-Err.is) ∙ e in
+    rw c.from.ensures (d, ap (λ (l : List ℕ). l ++ o) (nothing ys empty) ∙ after-refusal s o _ _ d)
 
 pub returns-in_err-stored : goal.returns-in_err-stored
 returns-in_err-stored c =
@@ -38,9 +37,9 @@ returns-in_err-stored c =
     let o = a.out.now in
     let ys = c.read_condition.new.out in
     let empty = c.read_condition.auto.out in
-    let e = first_walk s o ys _ _ _ _ c.if-text-gt-MOST_TEXT.false empty c.start.ensures c.read_condition.ensures in
-    let d = sym c.in_err-stored.was ∙ (c.decide_at.ensures ∙ (ap (λ (r : Result Place Wrong). decide_of r (length s) (length (ys ++ o))) (sym c.in_ok-end.was) ∙ e)) in
-    let p = err_from_is_err_and c.from_residual-in_err-stored.result c.from_residual-in_err-stored.ensures.1 in
+    let e = first_walk s o ys _ _ _ _ c.if-text-gt-MOST_TEXT.false empty c.start-front.ensures c.read_condition.ensures in
+    let d = sym c.in_err-stored.was ∙ (c.decide_at.ensures ∙ (ap (λ (r : Result Place Wrong). decide_of r (length s) (length (ys ++ o))) (sym c.in-Ok.is) ∙ e)) in
+    let p = err_from_is_err_and c.from_residual.result c.from_residual.ensures.1 in
     rw (p.1, p.2) (d, ap (λ (l : List ℕ). l ++ o) (nothing ys empty) ∙ after-refusal s o _ _ d)
 
 pub write-requires : goal.write-requires
@@ -50,8 +49,8 @@ write-requires c =
     let o = a.out.now in
     let ys = c.read_condition.new.out in
     let empty = c.read_condition.auto.out in
-    let e = first_walk s o ys _ _ _ _ c.if-text-gt-MOST_TEXT.false empty c.start.ensures c.read_condition.ensures in
-    let d = sym c.in_ok-stored.was ∙ (c.decide_at.ensures ∙ (ap (λ (r : Result Place Wrong). decide_of r (length s) (length (ys ++ o))) (sym c.in_ok-end.was) ∙ e)) in
+    let e = first_walk s o ys _ _ _ _ c.if-text-gt-MOST_TEXT.false empty c.start-front.ensures c.read_condition.ensures in
+    let d = sym c.in_ok-stored.was ∙ (c.decide_at.ensures ∙ (ap (λ (r : Result Place Wrong). decide_of r (length s) (length (ys ++ o))) (sym c.in-Ok.is) ∙ e)) in
     omega (arith, done-room s (length o) _ _ d, ap (λ (l : List ℕ). length (l ++ o)) (nothing ys empty))
 
 pub returns : goal.returns
@@ -61,7 +60,7 @@ returns c =
     let o = a.out.now in
     let ys = c.read_condition.new.out in
     let empty = c.read_condition.auto.out in
-    let e = first_walk s o ys _ _ _ _ c.if-text-gt-MOST_TEXT.false empty c.start.ensures c.read_condition.ensures in
-    let d = sym c.in_ok-stored.was ∙ (c.decide_at.ensures ∙ (ap (λ (r : Result Place Wrong). decide_of r (length s) (length (ys ++ o))) (sym c.in_ok-end.was) ∙ e)) in
+    let e = first_walk s o ys _ _ _ _ c.if-text-gt-MOST_TEXT.false empty c.start-front.ensures c.read_condition.ensures in
+    let d = sym c.in_ok-stored.was ∙ (c.decide_at.ensures ∙ (ap (λ (r : Result Place Wrong). decide_of r (length s) (length (ys ++ o))) (sym c.in-Ok.is) ∙ e)) in
     let q = c.write.new.out in
     (d, after-done s o q _ _ d (subst (λ (l : List ℕ). Wrote s (l ++ o) q) (nothing ys empty) c.write.ensures))

@@ -6,4 +6,4 @@ use Rattle.wording.proofs.write.Goals as goal
 pub returns : goal.returns
 returns c =
     let a = c.args in
-    wrote a.s.now.bytes.now a.out.now _ _ _ _ c.start.ensures (c.put.ensures ∙ headed-is a.out.now c.requires) c.read_condition.ensures
+    wrote a.s.now.bytes.now a.out.now _ _ _ _ c.start-front.ensures (c.put.ensures ∙ headed-is a.out.now c.requires) c.read_condition.ensures

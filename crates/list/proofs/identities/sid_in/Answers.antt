@@ -13,21 +13,15 @@ returns-in_err-len c =
     let z = none-unless_zero (length_of_sid d) (sym c.sid_at.ensures ∙ c.in_err-len.was) in
     c.from_residual.ensures ∙ sym (unless_zero-none _ (whole-there d (omega arith) ∙ z))
 
-pub overflow_sub-s : goal.overflow_sub-s
-overflow_sub-s c =
+pub returns-then-saturating_sub-len : goal.returns-then-saturating_sub-len
+returns-then-saturating_sub-len c =
     let d = drop c.args.at c.args.s.now in
     let e = some-unless_zero (length_of_sid d) _ (sym c.sid_at.ensures ∙ c.in_ok-len.was) in
-    omega (arith, sid-some d (omega arith), length-drop c.args.at c.args.s.now)
-
-pub returns-then-s-at : goal.returns-then-s-at
-returns-then-s-at c =
-    let d = drop c.args.at c.args.s.now in
-    let e = some-unless_zero (length_of_sid d) _ (sym c.sid_at.ensures ∙ c.in_ok-len.was) in
-    sym (unless_zero-none _ (whole-cut d (omega (arith, length-drop c.args.at c.args.s.now))))
+    sym (unless_zero-none _ (whole-cut d (omega (arith, c.saturating_sub.ensures, length-drop c.args.at c.args.s.now))))
 
 pub returns : goal.returns
 returns c =
     let d = drop c.args.at c.args.s.now in
     let e = some-unless_zero (length_of_sid d) _ (sym c.sid_at.ensures ∙ c.in_ok-len.was) in
     let h = sid-some d (omega arith) in
-    sym (rw (whole-there d (omega (arith, length-drop c.args.at c.args.s.now)), e.0) (unless_zero-some _ e.1))
+    sym (rw (whole-there d (omega (arith, c.saturating_sub.ensures, length-drop c.args.at c.args.s.now)), e.0) (unless_zero-some _ e.1))

@@ -1,10 +1,10 @@
 -- What is told at once, or what the test finds. Assumes nothing.
-use mathlib.Core.Path.{◌≡◌, sym, ap, subst, ◌∙◌}
+use mathlib.Core.Path.{◌≡◌, ap, subst, ◌∙◌}
 use mathlib.Core.List.{List}
 use Prim.Native.Nat.{ℕ}
 use lib.ListN.{drop}
 use Rattle.std.specs.Prelude.{Ok}
-use Rattle.list.specs.Entry.{access, size_of, entry_of}
+use Rattle.list.specs.Entry.{access, size_of}
 use Rattle.list.specs.Good.{Sound}
 use Rattle.list.specs.Inner.Begins.{sized}
 use Rattle.octets.proofs.Places.{rest-is}
@@ -17,17 +17,3 @@ returns-in-Some c =
     let a = c.args in
     let q = subst (λ (t : List ℕ). (c.in-Some.size ≡ size_of t) × Sound access a.rev t) (rest-is a.list.now a.at) c.in-Some.ensures in
     ap Ok q.0 ∙ ap (sized a.at) (is-good access a.rev (drop a.at a.list.now) q.1)
-
-pub returns-in-Err : goal.returns-in-Err
-unfolding sized
-returns-in-Err c =
-    let a = c.args in
-    let q = sym (ap (entry_of access a.rev) (rest-is a.list.now a.at)) ∙ sym c.entry_of.ensures ∙ c.in-Err.is in
-    rw c.at.ensures (sym (ap (sized a.at) q))
-
-pub returns-in-Ok : goal.returns-in-Ok
-unfolding sized
-returns-in-Ok c =
-    let a = c.args in
-    let q = sym (ap (entry_of access a.rev) (rest-is a.list.now a.at)) ∙ sym c.entry_of.ensures ∙ c.in-Ok.is in
-    sym (ap (sized a.at) q)

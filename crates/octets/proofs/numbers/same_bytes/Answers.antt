@@ -12,12 +12,12 @@ returns-then-a-b c =
 pub loop-at-init : goal.loop-at-init
 loop-at-init c = (omega arith, c.if-a-b.false, refl)
 
-pub returns-then-word_in : goal.returns-then-word_in
-returns-then-word_in c =
+pub returns-then-word_at : goal.returns-then-word_at
+returns-then-word_at c =
     let a = c.args in
     sym (c.loop-at.invariant.2
     ∙ next-differs 4 c.loop-at.at a.a.now a.b.now (omega arith) (omega arith)
-    (λ e. c.if-word_in.true (c.word_in.ensures ∙ e ∙ sym c.word_in-in-loop-at.ensures)))
+    (λ e. c.if-word_at.true (c.word_at.ensures ∙ e ∙ sym c.word_at-in-loop-at.ensures)))
 
 pub loop-at-preserved : goal.loop-at-preserved
 loop-at-preserved c =
@@ -27,7 +27,7 @@ loop-at-preserved c =
       c.loop-at.invariant.2
           ∙ next-same 4 c.loop-at.at a.a.now a.b.now (omega arith) (omega arith)
           (λ i. (c.type_inv.a i).fits) (λ i. (c.type_inv.b i).fits)
-          (sym c.word_in.ensures ∙ c.if-word_in.false ∙ c.word_in-in-loop-at.ensures),
+          (sym c.word_at.ensures ∙ c.if-word_at.false ∙ c.word_at-in-loop-at.ensures),
     )
 
 pub returns : goal.returns

@@ -6,16 +6,16 @@ use Rattle.wording.specs.Inner.Rows.{row_of}
 use Rattle.wording.proofs.conditions.+read_condition_read_factor_read_term.Given as goal
 
 abbrev pub decreases-read_condition : goal.decreases-read_condition
-decreases-read_condition l = 3 * steps_at condition l.s.now.bytes.now l.from.at + 2
+decreases-read_condition l = 3 * steps_at condition l.s.now.bytes.now l.at + 2
 
 abbrev pub decreases-read_term : goal.decreases-read_term
-decreases-read_term l = 3 * steps_at term l.s.now.bytes.now l.from.at + 2
+decreases-read_term l = 3 * steps_at term l.s.now.bytes.now l.at + 2
 
 abbrev pub decreases-read_row : goal.decreases-read_row
-decreases-read_row l = 3 * steps_at (row_of l.row) l.s.now.bytes.now l.from.at + 1
+decreases-read_row l = 3 * steps_at (row_of l.row) l.s.now.bytes.now l.at + 1
 
 abbrev pub decreases-read_part : goal.decreases-read_part
-decreases-read_part l = 3 * steps_at (row_of l.row) l.s.now.bytes.now l.from.at
+decreases-read_part l = 3 * steps_at (row_of l.row) l.s.now.bytes.now l.at
 
 abbrev pub decreases-read_factor : goal.decreases-read_factor
-decreases-read_factor l = 3 * steps_at factor l.s.now.bytes.now l.from.at + 2
+decreases-read_factor l = 3 * steps_at factor l.s.now.bytes.now l.at + 2
